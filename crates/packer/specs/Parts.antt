@@ -1,0 +1,46 @@
+-- Strings, data and raw bytes, from document 01, "Records". What is read is a part of the window: a place and a length.
+use Prim.Native.Nat.{ℕ, _+_}
+use mathlib.Core.Bool.{cond}
+use mathlib.Core.List.{List, [], _∷_}
+use lib.ListN.{length, take, drop}
+use lib.Dec.{leb, eqb}
+use lib.IntN.{ℤ, pos, negsuc}
+use Rattle.varint.specs.Integers.{readInt}
+use Rattle.varint.specs.declared.IntRead.{IntRead}
+use Rattle.varint.specs.declared.IntRead.the-variants as ints
+use Rattle.packer.specs.declared.Part.{Part}
+use Rattle.packer.specs.declared.PartRead.{PartRead}
+use Rattle.packer.specs.declared.PartRead.the-variants.{Got, RunsOut}
+
+abbrev pub part : ℕ → ℕ → Part
+part at len = record { at = at; len = len }
+
+-- the bytes at a place and length; none where they reach outside the window
+unfoldable pub shown : List ℕ → Part → List ℕ
+shown s p = cond (leb (p .at + p .len) (length s)) (take (p .len) (drop (p .at) s)) []
+
+-- so many bytes at a place
+unfoldable pub readRaw : ℕ → List ℕ → ℕ → PartRead
+readRaw n s at = cond (leb (at + n) (length s)) (Got (part at n) (at + n)) RunsOut
+
+-- the rest of a string that began at `at` and has n bytes so far
+unfoldable pub stringFrom : List ℕ → ℕ → ℕ → PartRead
+stringFrom [] at n = RunsOut
+stringFrom (b ∷ s) at n = cond (eqb b 0) (Got (part at n) (at + n + 1)) (stringFrom s at (n + 1))
+
+-- a string runs to a 00, which is used and not shown
+unfoldable pub readString : List ℕ → ℕ → PartRead
+readString s at = stringFrom (drop at s) at 0
+
+-- data of a length; a negative length counts as running out
+abbrev pub dataOf : List ℕ → ℤ → ℕ → PartRead
+dataOf s (pos n) next = readRaw n s next
+dataOf s (negsuc n) next = RunsOut
+
+abbrev pub dataAfter : List ℕ → IntRead → PartRead
+dataAfter s (ints.Got z next remark) = dataOf s z next
+dataAfter s ints.RunsOut = RunsOut
+
+-- data is an integer length, then the bytes
+unfoldable pub readData : List ℕ → ℕ → PartRead
+readData s at = dataAfter s (readInt s at)

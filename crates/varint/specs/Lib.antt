@@ -1,0 +1,4 @@
+pub mod Integers
+pub mod Marked
+pub mod Written
+pub mod Laws
