@@ -1,18 +1,20 @@
--- An integer that stands at a place of a list: read back, and not changed by what follows. Assumes nothing.
+-- An integer that stands at a place of a list: read back, within 32 bits, and not changed by what follows. Assumes nothing.
 use Prim.Native.Nat.{ℕ, zero, suc, _+_, _-_, _≤_, _<_}
 use mathlib.Core.Path.{_≡_, refl, sym, _∙_, ap}
 use mathlib.Core.List.{List, [], _∷_, _++_}
-use mathlib.Core.Bool.{Bool, true, false}
+use mathlib.Core.Bool.{true, false, cond}
 use native.Mathlib.Omega.{arith}
 use native.Mathlib.Nat.{add-zero}
 use lib.ListN.{length, getD, take, drop, length-drop, take-append-drop}
 use lib.Seq.{getD-drop, drop-append-le, drop-drop}
+use lib.Dec.{eqb}
 use lib.IntN.{ℤ}
 use mir.Syntax.{w32}
 use mir.Val.{SFits}
-use Rattle.varint.specs.Integers.{signOf, isLast, readFrom, readInt}
+use Rattle.varint.specs.Integers.{amount, signOf, isLast, valueOf, readFrom, readInt}
 use Rattle.varint.specs.Written.{canonical, laterBytes, firstByte}
 use Rattle.num.proofs.Cases.{by-bool}
+use Rattle.num.proofs.Signs.{reads-fit}
 use Rattle.varint.proofs.RoundTrip.{from-start}
 use Rattle.varint.proofs.Back.{read-canonical}
 use Rattle.varint.specs.declared.Remark.{Remark}
@@ -60,6 +62,26 @@ module _ (at sign : ℕ) (v : ℤ) (next : ℕ) (r : Remark) where
       let m : next ≡ at + k + 1 = cc in
       omega arith)
       (λ l. omega (arith, from-within xs (k + 1) _ (rw l at e)))
+
+value-fits : (sign n : ℕ) → SFits w32 (valueOf sign n)
+unfolding valueOf
+value-fits sign n = reads-fit (cond (eqb sign 0) n (4294967295 - n))
+
+from-fits : (xs : List ℕ) (at k sign n next : ℕ) (v : ℤ) (r : Remark) → readFrom xs at k sign n ≡ Got v next r → SFits w32 v
+unfolding readFrom
+from-fits [] at k sign n next v r e = let z : _≡_ {A = ℕ} 0 1 = cc in absurd (omega arith)
+from-fits (b ∷ xs) at k sign n next v r e =
+    by-bool (isLast k b)
+    (λ l.
+    let q = rw l at e in
+    let m : v ≡ valueOf sign (n + amount k b) = cc in
+    rw m (value-fits sign (n + amount k b)))
+    (λ l. from-fits xs at (k + 1) sign _ next v r (rw l at e))
+
+-- what is read is a number of 32 bits
+pub int-fits : (s : List ℕ) (at : ℕ) (v : ℤ) (next : ℕ) (r : Remark) → readInt s at ≡ Got v next r → SFits w32 v
+unfolding readInt
+int-fits s at v next r e = from-fits (drop at s) at 0 (signOf (getD s at 0)) 0 next v r e
 
 first-same : (xs t : List ℕ) (v : ℤ) (at next : ℕ) (r : Remark) → readFrom xs at 0 (signOf (getD xs 0 0)) 0 ≡ Got v next r → getD (xs ++ t) 0 0 ≡ getD xs 0 0
 unfolding readFrom

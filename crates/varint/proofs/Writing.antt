@@ -10,8 +10,9 @@ use lib.ListN.{length, set}
 use lib.Seq.{sets, sets-eq}
 use lib.Dec.{eqb}
 use lib.IntN.{ℤ, pos, negsuc}
+use lib.Signed.{mag}
 use borrow.Author.Tests.{eq-eqb, ne-eqb, le-leb, lt-leb}
-use Rattle.varint.specs.Written.{signBit, extend, laterByte, laterBytes, written, wrote}
+use Rattle.varint.specs.Written.{signBit, extend, laterByte, laterBytes, canonical, written, wrote}
 use Rattle.refusal.specs.declared.Refusal.the-variants.{ShortTarget}
 use Rattle.varint.specs.declared.Wrote.the-variants.{Past, Refused}
 
@@ -76,3 +77,7 @@ unfolding laterBytes
 later-le zero rest = omega arith
 later-le (suc n) rest =
     cond-length (eqb rest 0) (laterByte rest) n (laterBytes n (rest / 128)) (later-le n (rest / 128))
+
+pub canonical-le : (z : ℤ) → length (canonical z) ≤ 5
+unfolding canonical
+canonical-le z = omega (arith, later-le 4 (mag z / 64))

@@ -187,8 +187,7 @@ pub fn write_int(value: i32, out: &mut [u8], at: usize) -> Wrote
     ensures answer { λ r. ⌜ r ≡ wrote (now (out .entry)) at (canonical value) ⌝ }
     ensures target { λ r. ⌜ now (out .exit) ≡ written (now (out .entry)) at (canonical value) ⌝ }
 {
-    let mut rest = magnitude(value) / 64;
-    let count = 1 + later_count(rest);
+    let count = int_size(value);
     if out.len() < at {
         return Wrote::Refused(Refusal::ShortTarget);
     }
@@ -196,6 +195,7 @@ pub fn write_int(value: i32, out: &mut [u8], at: usize) -> Wrote
         return Wrote::Refused(Refusal::ShortTarget);
     }
     out[at] = first_byte(value);
+    let mut rest = magnitude(value) / 64;
     let mut i = at + 1;
     while rest != 0 {
         out[i] = later_byte(rest);

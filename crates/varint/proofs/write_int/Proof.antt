@@ -1,9 +1,9 @@
 -- `varint::write_int` meets its contract. The loop's invariant: the bytes still to come, stored from `i` on, make of the target what
 -- the whole number's bytes make of it. Assumes nothing.
-use Prim.Native.Nat.{ℕ, _+_, _-_, _/_, _^_, _≤_, _<_}
+use Prim.Native.Nat.{_+_, _-_, _/_, _^_, _≤_, _<_}
 use mathlib.Core.Path.{_≡_, refl, sym, _∙_, ap}
 use native.Mathlib.Omega.{arith}
-use native.Mathlib.Numerals.{add-one, one-add}
+use native.Mathlib.Numerals.{add-one}
 use borrow.Author.Needs.{needs}
 use lib.ListN.{length, length-set}
 use lib.Seq.{sets}
@@ -12,12 +12,12 @@ use mir.Syntax.{w32}
 use mir.Facts.{toZ-ofZ}
 use Rattle.varint.specs.declared.Wrote.the-variants.{Past}
 use Rattle.varint.specs.Written.{firstByte, laterByte, laterBytes, canonical}
-use Rattle.varint.proofs.Writing.{left, later-one, later-none, later-le, put-one, fits-written, fits-answer, short}
+use Rattle.varint.proofs.Writing.{left, later-one, later-none, put-one, fits-written, fits-answer, short}
 use Rattle.varint.proofs.write_int.Statement.{statement}
 use Rattle.varint.proofs.write_int.Tie as tie
 
 abbrev Inv-loop : tie.InvT-loop
-Inv-loop value out₀ at rest₀ count i₀ out rest i =
+Inv-loop value out₀ at count rest₀ i₀ out rest i =
     (length out ≡ length out₀)
     × ((at + 1 ≤ i)
     × ((i ≤ at + 5)
@@ -26,58 +26,49 @@ Inv-loop value out₀ at rest₀ count i₀ out rest i =
     × (sets out i (laterBytes (at + 5 - i) rest) ≡ sets out₀ (at + 1) (laterBytes 4 rest₀))))))
 
 abbrev μ-loop : tie.MeasureT-loop
-μ-loop value out₀ at rest₀ count i₀ out rest i = rest
+μ-loop value out₀ at count rest₀ i₀ out rest i = rest
 
 -- a signed argument is read back from its bits
-magnitude-is : (c : tie.After-magnitude Inv-loop μ-loop) → c .magnitude .result ≡ mag (c .before .before .args .value)
-magnitude-is c = c .magnitude .ensures ∙ ap mag (toZ-ofZ {w = w32} {z = c .before .before .args .value} (c .before .before .fits .value))
+count-is : (c : tie.After-int-size Inv-loop μ-loop) → c .int-size .result ≡ length (canonical (c .before .before .args .value))
+count-is c =
+    let a = c .before .before in
+    c .int-size .ensures ∙ rw (toZ-ofZ {w = w32} {z = a .args .value} (a .fits .value))
 
-first-is : (c : tie.After-first-byte Inv-loop μ-loop) → c .first-byte .result ≡ firstByte (c .before .before .before .before .before .before .args .value)
-first-is c = c .first-byte .ensures ∙ ap firstByte (toZ-ofZ {w = w32} {z = c .before .before .before .before .before .before .args .value} (c .before .before .before .before .before .before .fits .value))
+first-is : (c : tie.After-first-byte Inv-loop μ-loop) → c .first-byte .result ≡ firstByte (c .before .before .before .before .before .args .value)
+first-is c =
+    let a = c .before .before .before .before .before in
+    c .first-byte .ensures ∙ ap firstByte (toZ-ofZ {w = w32} {z = a .args .value} (a .fits .value))
 
-count-is : (c : tie.After-later-count Inv-loop μ-loop) → length (canonical (c .before .before .before .args .value)) ≡ 1 + c .later-count .result
-unfolding canonical
-count-is c = rw (c .later-count .ensures, magnitude-is (c .before), one-add)
-
-magnitude-requires : tie.Need-magnitude-requires Inv-loop μ-loop
-magnitude-requires c κs = search needs
-
-later-count-requires : tie.Need-later-count-requires Inv-loop μ-loop
-later-count-requires c κs = omega arith
-
-add-count : tie.Need-add-count Inv-loop μ-loop
-add-count c = omega (arith, later-le 4 (c .before .magnitude .result / 64))
+magnitude-is : (c : tie.After-magnitude Inv-loop μ-loop) → c .magnitude .result ≡ mag (c .before .before .before .before .before .before .args .value)
+magnitude-is c =
+    let a = c .before .before .before .before .before .before in
+    c .magnitude .ensures ∙ ap mag (toZ-ofZ {w = w32} {z = a .args .value} (a .fits .value))
 
 returns : tie.Need-returns Inv-loop μ-loop
 returns c =
-    let a = c .before .before .before .before .args in
+    let a = c .before .before .before .args in
     short (a .out .now) (a .at) (canonical (a .value)) (omega (arith, count-is (c .before)))
-
-sub-if2 : tie.Need-sub-if2 Inv-loop μ-loop
-sub-if2 c = omega arith
 
 returns-2 : tie.Need-returns-2 Inv-loop μ-loop
 returns-2 c =
-    let a = c .before .before .before .before .before .args in
+    let a = c .before .before .before .before .args in
     short (a .out .now) (a .at) (canonical (a .value)) (omega (arith, count-is (c .before .before)))
 
-first-byte-requires : tie.Need-first-byte-requires Inv-loop μ-loop
-first-byte-requires c κs = search needs
-
 slice-write-out : tie.Need-slice-write-out Inv-loop μ-loop
-slice-write-out c = omega arith
+unfolding canonical
+slice-write-out c = omega (arith, count-is (c .before .before .before))
 
 add-i : tie.Need-add-i Inv-loop μ-loop
 add-i c = omega arith
 
 loop-holds : tie.Need-loop-holds Inv-loop μ-loop
+unfolding canonical
 loop-holds c =
     let a = c .before .before .before .before .before .before .args in
     let e : a .at + 5 - (a .at + 1) ≡ 4 = omega arith in
+    let k = count-is (c .before .before .before .before) in
+    let m = ap (λ n. length (laterBytes 4 (n / 64))) (magnitude-is c) in
     rw e (refl, (omega arith, (omega arith, (omega arith, (omega arith, refl)))))
-
-later-byte-requires : tie.Need-later-byte-requires Inv-loop μ-loop
-later-byte-requires c κs = search needs
 
 slice-write-out-2 : tie.Need-slice-write-out-2 Inv-loop μ-loop
 slice-write-out-2 c =
@@ -85,13 +76,7 @@ slice-write-out-2 c =
     let a = c .before .before .before .before .before .before .before .before .before .args in
     let n = a .at + 5 - l .i in
     let q = ap length (later-one (l .rest) (c .before .loop-test .taken) n (l .inv .1 .1 .1 .1 .0)) in
-    omega (arith, length-set (a .out .now) (a .at) (c .before .before .before .first-byte .result))
-
-add-i-2 : tie.Need-add-i-2 Inv-loop μ-loop
-add-i-2 c = omega arith
-
-loop-less : tie.Need-loop-less Inv-loop μ-loop
-loop-less c = omega arith
+    omega (arith, length-set (a .out .now) (a .at) (c .before .before .before .before .first-byte .result))
 
 loop-again : tie.Need-loop-again Inv-loop μ-loop
 loop-again c =
@@ -122,37 +107,20 @@ unfolding canonical
 returns-3 c =
     let l = c .before .loop in
     let a = c .before .before .before .before .before .before .before .before .args in
-    let k = count-is (c .before .before .before .before .before) in
+    let k = count-is (c .before .before .before .before .before .before) in
     let h : a .at + length (canonical (a .value)) ≤ length (a .out .now) = omega arith in
-    let d : l .i + 0 ≡ a .at + (1 + c .before .before .before .before .before .later-count .result) =
+    let d : l .i + 0 ≡ a .at + c .before .before .before .before .before .before .int-size .result =
     rw (c .loop-test .left, later-none) at (l .inv .1 .1 .1 .0) in
     let i : l .i ≡ a .at + length (canonical (a .value)) = omega arith in (
       ap Past i ∙ fits-answer (a .out .now) (a .at) (canonical (a .value)) h,
       (rw (c .loop-test .left, later-none) at (l .inv .1 .1 .1 .1 .1))
-          ∙ rw (first-is (c .before .before), magnitude-is (c .before .before .before .before .before .before), add-one)
+          ∙ rw (first-is (c .before .before .before), magnitude-is (c .before .before), add-one)
           (fits-written (a .out .now) (a .at) (canonical (a .value)) h),
     )
 
 pub write-int-spec : {M : Type 1} → statement M
 write-int-spec =
     tie.close
-    (tie.spec
-    Inv-loop
-    μ-loop
-    magnitude-requires
-    later-count-requires
-    add-count
-    returns
-    sub-if2
-    returns-2
-    first-byte-requires
-    slice-write-out
-    add-i
-    loop-holds
-    later-byte-requires
-    slice-write-out-2
-    add-i-2
-    loop-less
-    loop-again
-    same-length
-    returns-3)
+    (tie.spec Inv-loop μ-loop (λ c κs. search needs) returns (λ c. omega arith) returns-2 (λ c κs. search needs) slice-write-out
+    (λ c κs. search needs) add-i loop-holds (λ c κs. search needs) slice-write-out-2 (λ c. omega arith) (λ c. omega arith) loop-again
+    same-length returns-3)

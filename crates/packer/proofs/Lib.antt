@@ -1,0 +1,4 @@
+pub mod Joined
+pub mod Places
+pub mod Reading
+pub mod Texts

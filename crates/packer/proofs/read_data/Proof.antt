@@ -1,0 +1,50 @@
+-- `packer::read_data` meets its contract. Assumes nothing.
+use mathlib.Core.Path.{_≡_, refl, sym, _∙_, ap}
+use native.Mathlib.Omega.{arith}
+use borrow.Author.Needs.{needs}
+use lib.IntN.{pos, negsuc}
+use lib.Signed.{mag}
+use mir.Syntax.{w32}
+use mir.Val.{SFits, toZ, ofZ}
+use Rattle.packer.specs.Parts.{dataAfter, dataOf, readData}
+use Rattle.num.proofs.Signs.{below-zero, not-below-zero}
+use Rattle.packer.proofs.read_data.Statement.{statement}
+use Rattle.packer.proofs.read_data.Tie as tie
+
+returns : tie.Need-returns
+unfolding readData
+returns c =
+    ap (dataAfter (c .before .before .before .before .args .s .now)) (sym (c .enum-told .given .1) ∙ c .before .before .read-int .ensures)
+
+returns-2 : tie.Need-returns-2
+unfolding readData
+returns-2 c =
+    let f = c .before .before .value .given in
+    let s = c .before .before .before .before .before .before .args .s .now in
+    let h : SFits w32 (f .0 .0) = search needs in
+    ap (λ z. dataOf s z (f .0 .1 .0)) (sym (below-zero (f .0 .0) h (c .if1 .taken)))
+    ∙ ap (dataAfter s) (sym (f .1) ∙ c .before .before .before .before .read-int .ensures)
+
+cast-read-raw : tie.Need-cast-read-raw
+cast-read-raw c =
+    let f = c .before .before .value .given in
+    let h : SFits w32 (f .0 .0) = search needs in
+    let x : toZ w32 (ofZ w32 (f .0 .0)) ≡ f .0 .0 = search needs in
+    rw (x ∙ not-below-zero (f .0 .0) h (c .if1 .left)) (tt, record { fits = omega (arith, h .sfits) })
+
+returns-3 : tie.Need-returns-3
+unfolding readData
+returns-3 c =
+    let f = c .before .before .before .value .given in
+    let s = c .before .before .before .before .before .before .before .args .s .now in
+    let h : SFits w32 (f .0 .0) = search needs in
+    let x : toZ w32 (ofZ w32 (f .0 .0)) ≡ f .0 .0 = search needs in
+    let p = not-below-zero (f .0 .0) h (c .before .if1 .left) in
+    rw (x ∙ p) at (c .read-raw .ensures)
+    ∙ ap (λ z. dataOf s z (f .0 .1 .0)) (sym p)
+    ∙ ap (dataAfter s) (sym (f .1) ∙ c .before .before .before .before .before .read-int .ensures)
+
+pub read-data-spec : {M : Type 1} → statement M
+read-data-spec =
+    tie.close
+    (tie.spec (λ c κs. search needs) (λ c. search needs) (λ c. search needs) returns returns-2 cast-read-raw (λ c κs. search needs) returns-3)
