@@ -1,7 +1,7 @@
 -- `packer::write_data` meets its contract. Assumes nothing.
 use Prim.Native.Nat.{ℕ, _+_, _≤_}
-use mathlib.Core.Path.{_≡_, refl, sym, _∙_, ap}
-use mathlib.Core.Bool.{true, false}
+use mathlib.Core.Path.{_≡_, refl, sym, _∙_}
+use mathlib.Core.Bool.{true}
 use native.Mathlib.Omega.{arith}
 use borrow.Author.Needs.{needs}
 use borrow.Author.Tests.{le-leb, lt-leb}
@@ -10,7 +10,7 @@ use lib.IntN.{pos}
 use mir.Syntax.{w32}
 use mir.Facts.{toZ-pos}
 use Rattle.varint.specs.Written.{canonical}
-use Rattle.varint.specs.declared.Wrote.the-variants.{Past, Refused}
+use Rattle.varint.specs.declared.Wrote.the-variants.{Past}
 use Rattle.varint.proofs.Writing.{canonical-le, fits-answer, short}
 use Rattle.packer.specs.Texts.{isData, dataBytes}
 use Rattle.packer.proofs.Joined.{Put, put-answer, first-fits, next-fits, two-puts}
