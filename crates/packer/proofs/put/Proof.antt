@@ -1,4 +1,5 @@
--- `packer::put` meets its contract. The loop's invariant: the bytes still to come make of the target what all of them make of it. Assumes nothing.
+-- `packer::put` meets its contract. The loop's invariant: the bytes still to come make of the target what all of them make of it.
+-- Assumes nothing.
 use Prim.Native.Nat.{_+_, _-_, _≤_}
 use mathlib.Core.Path.{_≡_, refl, sym, _∙_}
 use native.Mathlib.Omega.{arith}
