@@ -2,7 +2,7 @@
 ghost use mathlib.Core.Path.{_≡_};
 ghost use mathlib.Core.List.{[]};
 ghost use Rattle.fields.specs.Fields.{args, readField, readFields, argsFrom};
-ghost use Rattle.fields.specs.Views.{argsRead, fieldParts, tenFields, inputFields, inputRead, tenRead};
+ghost use Rattle.fields.specs.Views.{readArgs, argsRead, fieldParts, zeros, inputWith, tenFields, inputFields, inputRead, tenRead};
 use packer::Part;
 use packer::PartRead;
 use refusal::Refusal;
@@ -29,7 +29,9 @@ pub struct ArgsRead {
 
 const NO_PART: Part = Part { at: 0, len: 0 };
 
-fn no_args(answer: ArgsAnswer) -> ArgsRead {
+fn no_args(answer: ArgsAnswer) -> ArgsRead
+    ensures { λ r. ⌜ r ≡ readArgs answer [] ⌝ }
+{
     ArgsRead {
         answer,
         args: Args {
@@ -93,7 +95,9 @@ pub struct InputRead {
     pub input: [i32; 10],
 }
 
-fn no_input() -> InputRead {
+fn no_input() -> InputRead
+    ensures { λ r. ⌜ r ≡ inputWith InputAnswer.RunsOut (zeros 10) ⌝ }
+{
     InputRead {
         answer: InputAnswer::RunsOut,
         input: [0; 10],
