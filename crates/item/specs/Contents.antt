@@ -1,5 +1,6 @@
 -- The records that the code hands out: for each, which it is and the values that stand in it. Document 01, "Records" and rule 5.
 use Prim.Native.Nat.{ℕ}
+use mathlib.Core.Path.{_≡_}
 use mathlib.Core.Bool.{cond}
 use mathlib.Core.List.{List, [], _∷_, _++_, map}
 use lib.ListN.{take, replicate}
@@ -8,7 +9,7 @@ use Rattle.packer.specs.declared.Part.{Part}
 use Rattle.fields.specs.Fields.{Field, uuid, blob, Value, num, bytes, strings}
 use Rattle.fields.specs.Views.{zeros, argsWith}
 use Rattle.fields.specs.declared.Args.{Args}
-use Rattle.shapes.specs.Shapes.{idPart, valuesIn}
+use Rattle.shapes.specs.Shapes.{idPart, fieldsWith, valuesIn, tidyFields}
 use Rattle.shapes.specs.declared.Fields.{Fields}
 use Rattle.item.specs.Kinds.{kindNumber}
 use Rattle.item.specs.Extensions.{Payload, shaped, whole, unknown, payloadAt, hasClient}
@@ -22,6 +23,7 @@ use Rattle.item.specs.declared.Cid.the-variants.{Of, NoCid}
 use Rattle.item.specs.declared.Item.{Item}
 use Rattle.item.specs.declared.Item.the-variants as items
 use Rattle.item.specs.declared.Record.{Record}
+use Rattle.item.specs.declared.Taken.{Taken}
 
 -- ten numbers and arguments stand beside the enum; the client of PlayerDiff, PlayerNew and PlayerOld belongs to the kind
 abbrev pub itemOf : Item → Content Part
@@ -56,7 +58,7 @@ itemOf (items.TeamLoadSuccess team save-uuid save) = content (Named 16) (num tea
 itemOf (items.TeamPractice team practice) = content (Named 17) (num team ∷ num practice ∷ [])
 itemOf (items.TeamSaveFailure team) = content (Named 18) (num team ∷ [])
 itemOf (items.TeamSaveSuccess team save-uuid save) = content (Named 19) (num team ∷ bytes (idPart save-uuid) ∷ bytes save ∷ [])
-itemOf (items.UnknownEx uuid load) = content Other (bytes (idPart uuid) ∷ bytes load ∷ [])
+itemOf (items.UnknownEx id load) = content Other (bytes (idPart id) ∷ bytes load ∷ [])
 
 -- ---- the client of a record, or none
 
@@ -114,29 +116,37 @@ ownFields Other = uuid ∷ blob ∷ []
 abbrev pub fromFields : Tag → Fields → Content Part
 fromFields t f = content t (valuesIn (ownFields t) f)
 
+abbrev pub takenOf : Tag → ℤ → ℤ → ℕ → Part → Taken
+takenOf t a b id p = record { tag = t; fields = fieldsWith a b id p }
+
+-- the tag and the fields hold the record's values, and the unused fields are blank
+pub record TakenApart (i : Item) (t : Taken) : Type 0 where
+  pub values : fromFields (t .tag) (t .fields) ≡ itemOf i
+  pub blank : tidyFields (ownFields (t .tag)) (t .fields) ≡ t .fields
+
 -- ---- with what stands beside the enum
 
 abbrev pub besideKind : Kind → List ℤ → Args → List (Value Part)
-besideKind (kinds.PlayerDiff c) ten as = []
-besideKind kinds.Finish ten as = []
-besideKind kinds.TickSkip ten as = []
-besideKind (kinds.PlayerNew c) ten as = []
-besideKind (kinds.PlayerOld c) ten as = []
-besideKind kinds.InputDiff ten as = map num ten
-besideKind kinds.InputNew ten as = map num ten
-besideKind kinds.Message ten as = []
-besideKind kinds.Join ten as = []
-besideKind kinds.Drop ten as = []
-besideKind kinds.ConsoleCommand ten as = strings (take (as .count) (as .parts)) ∷ []
-besideKind kinds.Ex ten as = []
+besideKind (kinds.PlayerDiff c) ten xs = []
+besideKind kinds.Finish ten xs = []
+besideKind kinds.TickSkip ten xs = []
+besideKind (kinds.PlayerNew c) ten xs = []
+besideKind (kinds.PlayerOld c) ten xs = []
+besideKind kinds.InputDiff ten xs = map num ten
+besideKind kinds.InputNew ten xs = map num ten
+besideKind kinds.Message ten xs = []
+besideKind kinds.Join ten xs = []
+besideKind kinds.Drop ten xs = []
+besideKind kinds.ConsoleCommand ten xs = strings (take (xs .count) (xs .parts)) ∷ []
+besideKind kinds.Ex ten xs = []
 
 abbrev pub beside : Tag → List ℤ → Args → List (Value Part)
-beside (Plain k) ten as = besideKind k ten as
-beside (Named k) ten as = []
-beside Other ten as = []
+beside (Plain k) ten xs = besideKind k ten xs
+beside (Named k) ten xs = []
+beside Other ten xs = []
 
 abbrev pub withBeside : Content Part → List ℤ → Args → Content Part
-withBeside c ten as = content (c .tag) (c .values ++ beside (c .tag) ten as)
+withBeside c ten xs = content (c .tag) (c .values ++ beside (c .tag) ten xs)
 
 -- a whole record
 abbrev pub recordOf : Record → Content Part
@@ -147,7 +157,7 @@ abbrev pub noArgs : Args
 noArgs = argsWith []
 
 abbrev pub recordWith : Item → List ℤ → Args → Record
-recordWith i ten as = record { item = i; input = ten; args = as }
+recordWith i ten xs = record { item = i; input = ten; args = xs }
 
 abbrev pub blank : Record
 blank = recordWith items.Finish (zeros 10) noArgs

@@ -1,5 +1,6 @@
 -- Kinds. Document 01, "Records": 0 and above PlayerDiff of that client; -1 Finish; .. -11 extension, version 2 only.
 use Prim.Native.Nat.{ℕ, zero, suc, _+_}
+use mathlib.Core.Bool.{Bool, true, false}
 use mathlib.Core.List.{List}
 use lib.IntN.{ℤ, pos, negsuc}
 use Rattle.refusal.specs.declared.Refusal.the-variants.{UnknownType}
@@ -7,7 +8,6 @@ use Rattle.varint.specs.Integers.{readInt}
 use Rattle.varint.specs.declared.IntRead.{IntRead}
 use Rattle.varint.specs.declared.IntRead.the-variants as ints
 use Rattle.fields.specs.Fields.{Reading, got, runsOut, refused}
-use Rattle.fields.specs.Remarks.{remarkIn}
 use Rattle.item.specs.declared.Version.{Version}
 use Rattle.item.specs.declared.Version.the-variants.{V1, V2}
 use Rattle.item.specs.declared.Kind.{Kind}
@@ -30,6 +30,11 @@ use Rattle.item.specs.declared.Kind.the-variants.{
 abbrev pub withClient : (ℤ → Kind) → IntRead → Reading Kind
 withClient kind (ints.Got c next remark) = got (kind c) next
 withClient kind ints.RunsOut = runsOut
+
+-- PlayerOld or PlayerNew of a client
+abbrev pub playerKind : Bool → ℤ → Kind
+playerKind true c = PlayerOld c
+playerKind false c = PlayerNew c
 
 abbrev pub extension : Version → ℕ → Reading Kind
 extension V1 next = refused (UnknownType (negsuc 10))

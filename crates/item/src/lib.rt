@@ -1,8 +1,10 @@
 // Records (format/item.rs, format/mod.rs): versions, kinds, and the records themselves by the Rust's names.
 ghost use mathlib.Core.Path.{_≡_};
-ghost use Rattle.item.specs.Kinds.{readKind, kindNumber};
-ghost use Rattle.item.specs.Contents.{itemOf, cidOf, tagNumber, fromFields};
-ghost use Rattle.item.specs.Magic.{readMagic, versionOf};
+ghost use Rattle.varint.specs.Integers.{readInt};
+ghost use Rattle.item.specs.Extensions.{hasClient};
+ghost use Rattle.item.specs.Kinds.{playerKind, withClient, kindOf, readKind, kindNumber};
+ghost use Rattle.item.specs.Contents.{itemOf, kindCid, cidOf, tagNumber, takenOf, TakenApart};
+ghost use Rattle.item.specs.Magic.{versionOf};
 ghost use Rattle.item.specs.Views.{kindIs};
 use fields::Args;
 use packer::Part;
@@ -38,16 +40,45 @@ pub enum Kind {
 
 impl Kind {
     pub const FINISH: i32 = -1;
+
     pub const TICK_SKIP: i32 = -2;
+
     pub const PLAYER_NEW: i32 = -3;
+
     pub const PLAYER_OLD: i32 = -4;
+
     pub const INPUT_DIFF: i32 = -5;
+
     pub const INPUT_NEW: i32 = -6;
+
     pub const MESSAGE: i32 = -7;
+
     pub const JOIN: i32 = -8;
+
     pub const DROP: i32 = -9;
+
     pub const CONSOLE_COMMAND: i32 = -10;
+
     pub const EX: i32 = -11;
+
+    pub fn number(self) -> i32
+        ensures { λ r. ⌜ r ≡ kindNumber self ⌝ }
+    {
+        match self {
+            Kind::PlayerDiff(cid) => cid,
+            Kind::Finish => Kind::FINISH,
+            Kind::TickSkip => Kind::TICK_SKIP,
+            Kind::PlayerNew(_) => Kind::PLAYER_NEW,
+            Kind::PlayerOld(_) => Kind::PLAYER_OLD,
+            Kind::InputDiff => Kind::INPUT_DIFF,
+            Kind::InputNew => Kind::INPUT_NEW,
+            Kind::Message => Kind::MESSAGE,
+            Kind::Join => Kind::JOIN,
+            Kind::Drop => Kind::DROP,
+            Kind::ConsoleCommand => Kind::CONSOLE_COMMAND,
+            Kind::Ex => Kind::EX,
+        }
+    }
 }
 
 // Which record: a kind other than the extension's, one of the 20 extensions by its place in document 01, another extension.
@@ -318,7 +349,7 @@ pub fn read_kind(version: Version, s: &[u8], at: usize) -> KindRead
 
 const NO_PART: Part = Part { at: 0, len: 0 };
 
-fn taken(tag: Tag, first: i32, second: i32, uuid: usize, text: Part) -> Taken
+fn taken_with(tag: Tag, first: i32, second: i32, uuid: usize, text: Part) -> Taken
     ensures { λ r. ⌜ r ≡ takenOf tag first second uuid text ⌝ }
 {
     Taken {
@@ -332,44 +363,160 @@ fn taken(tag: Tag, first: i32, second: i32, uuid: usize, text: Part) -> Taken
     }
 }
 
+// The client of a plain record whose first number this is.
+fn kind_cid(kind: Kind, first: i32) -> Cid
+    ensures { λ r. ⌜ r ≡ kindCid kind first ⌝ }
+{
+    match kind {
+        Kind::PlayerDiff(cid) => Cid::Of(cid),
+        Kind::Finish => Cid::NoCid,
+        Kind::TickSkip => Cid::NoCid,
+        Kind::PlayerNew(cid) => Cid::Of(cid),
+        Kind::PlayerOld(cid) => Cid::Of(cid),
+        Kind::InputDiff => Cid::Of(first),
+        Kind::InputNew => Cid::Of(first),
+        Kind::Message => Cid::Of(first),
+        Kind::Join => Cid::Of(first),
+        Kind::Drop => Cid::Of(first),
+        Kind::ConsoleCommand => Cid::Of(first),
+        Kind::Ex => Cid::NoCid,
+    }
+}
+
+// Whether the first number of extension k is the record's client.
+fn has_client(k: usize) -> bool
+    ensures { λ r. ⌜ r ≡ hasClient k ⌝ }
+{
+    match k {
+        1..=11 => true,
+        13 => true,
+        _ => false,
+    }
+}
+
 impl Item {
     // The record's tag, and the fields that hold its values; the others are zero and empty.
     pub fn take_apart(self) -> Taken
         ensures { λ r. ⌜ TakenApart self r ⌝ }
     {
         match self {
-            Item::PlayerDiff { cid, dx, dy } => taken(Tag::Plain(Kind::PlayerDiff(cid)), dx, dy, 0, NO_PART),
-            Item::Finish => taken(Tag::Plain(Kind::Finish), 0, 0, 0, NO_PART),
-            Item::TickSkip { dt } => taken(Tag::Plain(Kind::TickSkip), num::signed(dt), 0, 0, NO_PART),
-            Item::PlayerNew { cid, x, y } => taken(Tag::Plain(Kind::PlayerNew(cid)), x, y, 0, NO_PART),
-            Item::PlayerOld { cid } => taken(Tag::Plain(Kind::PlayerOld(cid)), 0, 0, 0, NO_PART),
-            Item::InputDiff { cid } => taken(Tag::Plain(Kind::InputDiff), cid, 0, 0, NO_PART),
-            Item::InputNew { cid } => taken(Tag::Plain(Kind::InputNew), cid, 0, 0, NO_PART),
-            Item::Message { cid, msg } => taken(Tag::Plain(Kind::Message), cid, 0, 0, msg),
-            Item::Join { cid } => taken(Tag::Plain(Kind::Join), cid, 0, 0, NO_PART),
-            Item::Drop { cid, reason } => taken(Tag::Plain(Kind::Drop), cid, 0, 0, reason),
-            Item::ConsoleCommand { cid, flag_mask, cmd } => taken(Tag::Plain(Kind::ConsoleCommand), cid, num::signed(flag_mask), 0, cmd),
-            Item::Antibot { data } => taken(Tag::Named(0), 0, 0, 0, data),
-            Item::AuthInit { cid, level, identity } => taken(Tag::Named(1), cid, level, 0, identity),
-            Item::AuthLogin { cid, level, identity } => taken(Tag::Named(2), cid, level, 0, identity),
-            Item::AuthLogout { cid } => taken(Tag::Named(3), cid, 0, 0, NO_PART),
-            Item::Ddnetver { cid, connection_id, ddnet_version, ddnet_version_str } => taken(Tag::Named(4), cid, ddnet_version, connection_id, ddnet_version_str),
-            Item::DdnetverOld { cid, ddnet_version } => taken(Tag::Named(5), cid, ddnet_version, 0, NO_PART),
-            Item::Joinver6 { cid } => taken(Tag::Named(6), cid, 0, 0, NO_PART),
-            Item::Joinver7 { cid } => taken(Tag::Named(7), cid, 0, 0, NO_PART),
-            Item::PlayerFinish { cid, time_ticks } => taken(Tag::Named(8), cid, time_ticks, 0, NO_PART),
-            Item::PlayerName { cid, name } => taken(Tag::Named(9), cid, 0, 0, name),
-            Item::PlayerReady { cid } => taken(Tag::Named(10), cid, 0, 0, NO_PART),
-            Item::PlayerRejoin { cid } => taken(Tag::Named(11), cid, 0, 0, NO_PART),
-            Item::PlayerSwap { cid1, cid2 } => taken(Tag::Named(12), cid1, cid2, 0, NO_PART),
-            Item::PlayerTeam { cid, team } => taken(Tag::Named(13), cid, team, 0, NO_PART),
-            Item::TeamFinish { team, time_ticks } => taken(Tag::Named(14), team, time_ticks, 0, NO_PART),
-            Item::TeamLoadFailure { team } => taken(Tag::Named(15), team, 0, 0, NO_PART),
-            Item::TeamLoadSuccess { team, save_uuid, save } => taken(Tag::Named(16), team, 0, save_uuid, save),
-            Item::TeamPractice { team, practice } => taken(Tag::Named(17), team, practice, 0, NO_PART),
-            Item::TeamSaveFailure { team } => taken(Tag::Named(18), team, 0, 0, NO_PART),
-            Item::TeamSaveSuccess { team, save_uuid, save } => taken(Tag::Named(19), team, 0, save_uuid, save),
-            Item::UnknownEx { uuid, data } => taken(Tag::Other, 0, 0, uuid, data),
+            Item::PlayerDiff { cid, dx, dy } => taken_with(
+                Tag::Plain(Kind::PlayerDiff(cid)),
+                dx,
+                dy,
+                0,
+                NO_PART,
+            ),
+            Item::Finish => taken_with(Tag::Plain(Kind::Finish), 0, 0, 0, NO_PART),
+            Item::TickSkip { dt } => taken_with(
+                Tag::Plain(Kind::TickSkip),
+                num::signed(dt),
+                0,
+                0,
+                NO_PART,
+            ),
+            Item::PlayerNew { cid, x, y } => taken_with(
+                Tag::Plain(Kind::PlayerNew(cid)),
+                x,
+                y,
+                0,
+                NO_PART,
+            ),
+            Item::PlayerOld { cid } => taken_with(
+                Tag::Plain(Kind::PlayerOld(cid)),
+                0,
+                0,
+                0,
+                NO_PART,
+            ),
+            Item::InputDiff { cid } => taken_with(Tag::Plain(Kind::InputDiff), cid, 0, 0, NO_PART),
+            Item::InputNew { cid } => taken_with(Tag::Plain(Kind::InputNew), cid, 0, 0, NO_PART),
+            Item::Message { cid, msg } => taken_with(Tag::Plain(Kind::Message), cid, 0, 0, msg),
+            Item::Join { cid } => taken_with(Tag::Plain(Kind::Join), cid, 0, 0, NO_PART),
+            Item::Drop { cid, reason } => taken_with(Tag::Plain(Kind::Drop), cid, 0, 0, reason),
+            Item::ConsoleCommand {
+                cid,
+                flag_mask,
+                cmd,
+            } => taken_with(
+                Tag::Plain(Kind::ConsoleCommand),
+                cid,
+                num::signed(flag_mask),
+                0,
+                cmd,
+            ),
+            Item::Antibot { data } => taken_with(Tag::Named(0), 0, 0, 0, data),
+            Item::AuthInit {
+                cid,
+                level,
+                identity,
+            } => taken_with(Tag::Named(1), cid, level, 0, identity),
+            Item::AuthLogin {
+                cid,
+                level,
+                identity,
+            } => taken_with(Tag::Named(2), cid, level, 0, identity),
+            Item::AuthLogout { cid } => taken_with(Tag::Named(3), cid, 0, 0, NO_PART),
+            Item::Ddnetver {
+                cid,
+                connection_id,
+                ddnet_version,
+                ddnet_version_str,
+            } => taken_with(
+                Tag::Named(4),
+                cid,
+                ddnet_version,
+                connection_id,
+                ddnet_version_str,
+            ),
+            Item::DdnetverOld { cid, ddnet_version } => taken_with(
+                Tag::Named(5),
+                cid,
+                ddnet_version,
+                0,
+                NO_PART,
+            ),
+            Item::Joinver6 { cid } => taken_with(Tag::Named(6), cid, 0, 0, NO_PART),
+            Item::Joinver7 { cid } => taken_with(Tag::Named(7), cid, 0, 0, NO_PART),
+            Item::PlayerFinish { cid, time_ticks } => taken_with(
+                Tag::Named(8),
+                cid,
+                time_ticks,
+                0,
+                NO_PART,
+            ),
+            Item::PlayerName { cid, name } => taken_with(Tag::Named(9), cid, 0, 0, name),
+            Item::PlayerReady { cid } => taken_with(Tag::Named(10), cid, 0, 0, NO_PART),
+            Item::PlayerRejoin { cid } => taken_with(Tag::Named(11), cid, 0, 0, NO_PART),
+            Item::PlayerSwap { cid1, cid2 } => taken_with(Tag::Named(12), cid1, cid2, 0, NO_PART),
+            Item::PlayerTeam { cid, team } => taken_with(Tag::Named(13), cid, team, 0, NO_PART),
+            Item::TeamFinish { team, time_ticks } => taken_with(
+                Tag::Named(14),
+                team,
+                time_ticks,
+                0,
+                NO_PART,
+            ),
+            Item::TeamLoadFailure { team } => taken_with(Tag::Named(15), team, 0, 0, NO_PART),
+            Item::TeamLoadSuccess {
+                team,
+                save_uuid,
+                save,
+            } => taken_with(Tag::Named(16), team, 0, save_uuid, save),
+            Item::TeamPractice { team, practice } => taken_with(
+                Tag::Named(17),
+                team,
+                practice,
+                0,
+                NO_PART,
+            ),
+            Item::TeamSaveFailure { team } => taken_with(Tag::Named(18), team, 0, 0, NO_PART),
+            Item::TeamSaveSuccess {
+                team,
+                save_uuid,
+                save,
+            } => taken_with(Tag::Named(19), team, 0, save_uuid, save),
+            Item::UnknownEx { uuid, data } => taken_with(Tag::Other, 0, 0, uuid, data),
         }
     }
 

@@ -1,7 +1,9 @@
 -- The field sequences that records share, and what stands in the code's fields for each.
-use Prim.Native.Nat.{ℕ}
+use Prim.Native.Nat.{ℕ, _+_}
 use mathlib.Core.Path.{_≡_}
+use mathlib.Core.Bool.{cond}
 use mathlib.Core.List.{List, [], _∷_}
+use lib.Dec.{leb}
 use lib.IntN.{ℤ, pos}
 use mir.Syntax.{w32}
 use mir.Val.{ofZ}
@@ -29,12 +31,12 @@ fieldsIn IntData = int ∷ blob ∷ []
 abbrev pub idPart : ℕ → Part
 idPart at = part at 16
 
-abbrev pub fields : ℤ → ℤ → ℕ → Part → Fields
-fields a b id t = record { first = a; second = b; uuid = id; text = t }
+abbrev pub fieldsWith : ℤ → ℤ → ℕ → Part → Fields
+fieldsWith a b id t = record { first = a; second = b; uuid = id; text = t }
 
 -- the values that stand in the code's fields, for some sorts of field in their order: the first number, then the second
 abbrev pub shift : Fields → Fields
-shift f = fields (f .second) (f .second) (f .uuid) (f .text)
+shift f = fieldsWith (f .second) (f .second) (f .uuid) (f .text)
 
 abbrev pub valuesIn : List Field → Fields → List (Value Part)
 valuesIn [] f = []
@@ -46,23 +48,53 @@ valuesIn (uuid ∷ fs) f = bytes (idPart (f .uuid)) ∷ valuesIn fs f
 valuesIn (blob ∷ fs) f = bytes (f .text) ∷ valuesIn fs f
 valuesIn (args ∷ fs) f = valuesIn fs f
 
--- the same with zeros and empty parts in the fields that the shape lacks
-abbrev pub tidy : Shape → Fields → Fields
-tidy Nothing f = fields (pos 0) (pos 0) 0 noPart
-tidy Int f = fields (f .first) (pos 0) 0 noPart
-tidy IntInt f = fields (f .first) (f .second) 0 noPart
-tidy IntStr f = fields (f .first) (pos 0) 0 (f .text)
-tidy IntIntStr f = fields (f .first) (f .second) 0 (f .text)
-tidy IntUuidStr f = fields (f .first) (pos 0) (f .uuid) (f .text)
-tidy IntUuidIntStr f = f
-tidy IntData f = fields (f .first) (pos 0) 0 (f .text)
+-- how many numbers, identifiers and texts there are among some sorts of field
+abbrev pub isNumber : Field → ℕ
+isNumber int = 1
+isNumber dt = 1
+isNumber mask = 1
+isNumber str = 0
+isNumber uuid = 0
+isNumber blob = 0
+isNumber args = 0
+
+abbrev pub isId : Field → ℕ
+isId int = 0
+isId dt = 0
+isId mask = 0
+isId str = 0
+isId uuid = 1
+isId blob = 0
+isId args = 0
+
+abbrev pub isText : Field → ℕ
+isText int = 0
+isText dt = 0
+isText mask = 0
+isText str = 1
+isText uuid = 0
+isText blob = 1
+isText args = 0
+
+abbrev pub countOf : (Field → ℕ) → List Field → ℕ
+countOf p [] = 0
+countOf p (f ∷ fs) = p f + countOf p fs
+
+-- the same with zeros and empty parts in the fields that are not used
+abbrev pub tidyFields : List Field → Fields → Fields
+tidyFields fs f =
+    fieldsWith
+    (cond (leb 1 (countOf isNumber fs)) (f .first) (pos 0))
+    (cond (leb 2 (countOf isNumber fs)) (f .second) (pos 0))
+    (cond (leb 1 (countOf isId fs)) (f .uuid) 0)
+    (cond (leb 1 (countOf isText fs)) (f .text) noPart)
 
 abbrev pub viewed : Shape → FieldsRead → Reading (List (Value Part))
 viewed shape (code.Got f next) = got (valuesIn (fieldsIn shape) f) next
 viewed shape code.RunsOut = runsOut
 
 abbrev pub tidied : Shape → FieldsRead → FieldsRead
-tidied shape (code.Got f next) = code.Got (tidy shape f) next
+tidied shape (code.Got f next) = code.Got (tidyFields (fieldsIn shape) f) next
 tidied shape code.RunsOut = code.RunsOut
 
 -- the shape's fields are read as the definition reads them, and the others are blank
