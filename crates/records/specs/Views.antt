@@ -89,7 +89,7 @@ inputItem true cid = records.InputNew cid
 inputItem false cid = records.InputDiff cid
 
 abbrev pub recordRead : RecordAnswer → Record → RecordRead
-recordRead a r = record { answer = a; record = r }
+recordRead a r = record { answer = a; value = r }
 
 abbrev pub alone : RecordAnswer → Item → RecordRead
 alone a i = recordRead a (recordWith i (zeros 10) noArgs)
@@ -112,7 +112,7 @@ answerIs answers.RunsOut r = runsOut
 answerIs (answers.Refused n) r = refused n
 
 abbrev pub readIs : RecordRead → Reading (Content Part)
-readIs r = answerIs (r .answer) (r .record)
+readIs r = answerIs (r .answer) (r .value)
 
 abbrev pub tidyAnswer : RecordAnswer → Record → Record
 tidyAnswer (answers.Got next) r = tidyRecord r
@@ -122,12 +122,12 @@ tidyAnswer (answers.Refused n) r = blank
 -- the rest of a record of a kind, as the definition reads it
 pub record RestRead (kind : Kind) (s : List ℕ) (at : ℕ) (r : RecordRead) : Type 0 where
   pub values : readIs r ≡ readRest kind s at
-  pub tidy : tidyAnswer (r .answer) (r .record) ≡ r .record
+  pub tidy : tidyAnswer (r .answer) (r .value) ≡ r .value
 
 -- a record at the start of a window
 pub record RecordAt (v : Version) (s : List ℕ) (r : RecordRead) : Type 0 where
   pub values : readIs r ≡ readRecord v s 0
-  pub tidy : tidyAnswer (r .answer) (r .record) ≡ r .record
+  pub tidy : tidyAnswer (r .answer) (r .value) ≡ r .value
 
 -- ---- the record call
 
@@ -147,5 +147,5 @@ tidySaid calls.More r = blank
 tidySaid (calls.Refused n) r = blank
 
 pub record Called (v : Version) (s : List ℕ) (last : Bool) (r : RecordCall) : Type 0 where
-  pub said : saidBy (r .answer) (r .record) ≡ recordCall v s last
-  pub tidy : tidySaid (r .answer) (r .record) ≡ r .record
+  pub said : saidBy (r .answer) (r .value) ≡ recordCall v s last
+  pub tidy : tidySaid (r .answer) (r .value) ≡ r .value

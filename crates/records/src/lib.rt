@@ -324,7 +324,7 @@ pub enum RecordAnswer {
 // The record stands beside the answer; it is a blank one (Finish, zeros, no arguments) where there is none.
 pub struct RecordRead {
     pub answer: RecordAnswer,
-    pub record: Record,
+    pub value: Record,
 }
 
 const NO_PART: Part = Part { at: 0, len: 0 };
@@ -335,7 +335,7 @@ fn alone(answer: RecordAnswer, item: Item) -> RecordRead
 {
     RecordRead {
         answer,
-        record: Record {
+        value: Record {
             item,
             input: [0; 10],
             args: Args {
@@ -367,7 +367,7 @@ fn read_input(new: bool, s: &[u8], at: usize) -> RecordRead
     };
     RecordRead {
         answer: RecordAnswer::Got(next),
-        record: Record {
+        value: Record {
             item: input_item(new, cid),
             input,
             args: Args {
@@ -385,7 +385,7 @@ fn command(answer: ArgsAnswer, item: Item, args: Args) -> RecordRead
     match answer {
         ArgsAnswer::Got(next) => RecordRead {
             answer: RecordAnswer::Got(next),
-            record: Record {
+            value: Record {
                 item,
                 input: [0; 10],
                 args,
@@ -488,7 +488,7 @@ pub enum CallAnswer {
 // The record stands beside the answer; it is a blank one where there is none.
 pub struct RecordCall {
     pub answer: CallAnswer,
-    pub record: Record,
+    pub value: Record,
 }
 
 // What is said of a record that was read, or of one whose bytes run out.
@@ -525,9 +525,9 @@ pub fn record_call(version: Version, s: &[u8], last: bool) -> RecordCall
 {
     let read = read_record(version, s);
     let answer = read.answer;
-    let record = read.record;
+    let value = read.value;
     RecordCall {
         answer: said_of(answer, last),
-        record,
+        value,
     }
 }
