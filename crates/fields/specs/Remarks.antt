@@ -6,8 +6,7 @@ use Rattle.varint.specs.declared.Remark.{Remark}
 use Rattle.varint.specs.declared.Remark.the-variants.{None, Overlong, Padding}
 use Rattle.varint.specs.declared.IntRead.{IntRead}
 use Rattle.varint.specs.declared.IntRead.the-variants as ints
-use Rattle.packer.specs.declared.Part.{Part}
-use Rattle.fields.specs.Fields.{Field, int, dt, mask, str, uuid, blob, args, Value, Reading, got, runsOut, refused, readField}
+use Rattle.fields.specs.Fields.{Field, int, dt, mask, str, uuid, blob, args, Reading, got, runsOut, refused, readField}
 
 abbrev pub remarkCount : Remark → ℕ
 remarkCount None = 0

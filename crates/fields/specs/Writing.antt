@@ -1,5 +1,5 @@
 -- The written form of fields, and which values have one. Document 01, "Records" and "The writer".
-use Prim.Native.Nat.{ℕ, _<_}
+use Prim.Native.Nat.{ℕ, _+_, _<_}
 use mathlib.Core.Path.{_≡_}
 use mathlib.Core.Bool.{Bool, true, false, _&&_}
 use mathlib.Core.List.{List, [], _∷_, _++_}
@@ -10,6 +10,7 @@ use mir.Syntax.{w32}
 use mir.Val.{SFits, toZ}
 use Rattle.varint.specs.Written.{canonical}
 use Rattle.packer.specs.Texts.{noZero, stringBytes, isData, dataBytes}
+use Rattle.packer.specs.declared.Part.{Part}
 use Rattle.fields.specs.Fields.{Field, int, dt, mask, str, uuid, blob, args, Value, num, bytes, strings}
 
 -- ---- the values of each sort of field: numbers of 32 bits, 16 bytes of an identifier
@@ -118,3 +119,21 @@ abbrev pub writeFields : List Field → List (Value (List ℕ)) → List ℕ
 writeFields [] vs = []
 writeFields (f ∷ fs) [] = []
 writeFields (f ∷ fs) (v ∷ vs) = writeField f v ++ writeFields fs vs
+
+-- ---- parts that lie inside a window
+
+abbrev pub inside : List ℕ → Part → Bool
+inside s p = leb (p .at + p .len) (length s)
+
+unfoldable pub allInside : List ℕ → List Part → Bool
+allInside s [] = true
+allInside s (p ∷ ps) = inside s p && allInside s ps
+
+abbrev pub valueInside : List ℕ → Value Part → Bool
+valueInside s (num z) = true
+valueInside s (bytes p) = inside s p
+valueInside s (strings ps) = allInside s ps
+
+abbrev pub partsInside : List ℕ → List (Value Part) → Bool
+partsInside s [] = true
+partsInside s (v ∷ vs) = valueInside s v && partsInside s vs

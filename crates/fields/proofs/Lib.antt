@@ -1,0 +1,6 @@
+pub mod Steady
+pub mod Strings
+pub mod Taken
+pub mod AllTaken
+pub mod Back
+pub mod Theorems
