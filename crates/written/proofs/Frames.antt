@@ -128,3 +128,7 @@ rows-known (e ∷ es) (suc k) a =
 pub known : (k : ℕ) → isKnown (payloadAt k) ≡ ltb k count
 unfolding payloadAt extensions
 known k = rows-known extensions k refl
+
+pub none-known : payloadAt count ≡ unknown
+unfolding payloadAt extensions
+none-known = refl

@@ -77,6 +77,21 @@ sort-of V1 (negsuc (suc (suc (suc (suc (suc (suc (suc (suc (suc (suc zero)))))))
 sort-of V2 (negsuc (suc (suc (suc (suc (suc (suc (suc (suc (suc (suc zero))))))))))) = alone kinds.Ex (itself V2 kinds.Ex refl) (λ s n. refl)
 sort-of v (negsuc (suc (suc (suc (suc (suc (suc (suc (suc (suc (suc (suc m)))))))))))) = none (UnknownType (negsuc (11 + m))) (λ s n. refl)
 
+-- an extension's is the only kind whose rest is one
+pub ex-only : (k : Kind) → restOf k ≡ extension → k ≡ kinds.Ex
+ex-only (kinds.PlayerDiff c) e = cc
+ex-only kinds.Finish e = cc
+ex-only kinds.TickSkip e = cc
+ex-only (kinds.PlayerNew c) e = cc
+ex-only (kinds.PlayerOld c) e = cc
+ex-only kinds.InputDiff e = cc
+ex-only kinds.InputNew e = cc
+ex-only kinds.Message e = cc
+ex-only kinds.Join e = cc
+ex-only kinds.Drop e = cc
+ex-only kinds.ConsoleCommand e = cc
+ex-only kinds.Ex e = refl
+
 -- ---- a kind that was read
 
 -- the remarks on the integers of a kind

@@ -1,3 +1,4 @@
+pub mod Back
 pub mod Frames
 pub mod KindLaws
 pub mod Steady

@@ -94,10 +94,11 @@ kindWritable kinds.Drop = true
 kindWritable kinds.ConsoleCommand = true
 kindWritable kinds.Ex = false
 
+-- 20 and above are no extensions
 abbrev pub payloadWritable : Payload → List (Value (List ℕ)) → Bool
 payloadWritable (shaped fs) vs = allWritable fs vs
 payloadWritable whole vs = true
-payloadWritable unknown vs = true
+payloadWritable unknown vs = false
 
 abbrev pub tagWritable : Version → Tag → List (Value (List ℕ)) → Bool
 tagWritable v (Plain k) vs = kindWritable k && allWritable (allFields (restOf k)) vs
