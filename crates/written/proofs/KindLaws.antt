@@ -2,10 +2,9 @@
 -- Assumes nothing.
 use Prim.Native.Nat.{ℕ, zero, suc, _+_, _≤_}
 use mathlib.Core.Path.{_≡_, refl, sym, _∙_, ap}
-use mathlib.Core.Bool.{Bool, true, false, false≢true}
-use mathlib.Core.List.{List, [], _∷_, _++_, append-assoc, append-nil}
+use mathlib.Core.Bool.{true, false≢true}
+use mathlib.Core.List.{List, [], _++_, append-assoc, append-nil}
 use native.Mathlib.Omega.{arith}
-use native.Mathlib.Nat.{add-zero}
 use lib.ListN.{length, drop, length-append}
 use lib.IntN.{ℤ, pos, negsuc}
 use mir.Syntax.{w32}
@@ -21,7 +20,7 @@ use Rattle.varint.specs.declared.IntRead.{IntRead}
 use Rattle.varint.specs.declared.IntRead.the-variants as ints
 use Rattle.varint.proofs.Prefix.{canonical-at}
 use Rattle.packer.proofs.Places.{past}
-use Rattle.fields.specs.Fields.{int, num, Reading, got, runsOut, refused}
+use Rattle.fields.specs.Fields.{int, num, got, refused}
 use Rattle.fields.specs.Remarks.{remarkIn}
 use Rattle.fields.proofs.Taken.{field-taken}
 use Rattle.item.specs.Kinds as item

@@ -3,7 +3,7 @@ use Prim.Native.Nat.{ℕ, _≤_}
 use mathlib.Core.Path.{_≡_, refl, sym, _∙_, ap}
 use mathlib.Core.Bool.{false, false≢true}
 use mathlib.Core.List.{List, _++_}
-use lib.ListN.{length, take}
+use lib.ListN.{length}
 use lib.Seq.{take-append-le}
 use lib.IntN.{ℤ}
 use Rattle.varint.specs.Integers.{readInt}
@@ -16,12 +16,12 @@ use Rattle.packer.specs.declared.Part.{Part}
 use Rattle.packer.specs.declared.PartRead.{PartRead}
 use Rattle.packer.specs.declared.PartRead.the-variants as parts
 use Rattle.packer.proofs.Parts.{raw-taken, data-taken}
-use Rattle.fields.specs.Fields.{Field, Value, Reading, got, runsOut, refused, readFields}
+use Rattle.fields.specs.Fields.{Value, Reading, got, runsOut, refused, readFields}
 use Rattle.fields.specs.Laws.{isOut}
 use Rattle.fields.proofs.Steady.{int-had, all-steady}
 use Rattle.item.specs.Kinds.{withClient, kindOf, afterNumber, readKind}
 use Rattle.item.specs.Extensions.{Payload, shaped, whole, unknown, find, payloadAt}
-use Rattle.item.specs.Records.{Content, Rest, fields, extension, restOf, asContent, ofPayload, afterData, afterId, readEx, readAs, readRest, afterKind, readRecord}
+use Rattle.item.specs.Records.{Rest, fields, extension, restOf, asContent, ofPayload, afterData, afterId, readEx, readAs, readRest, afterKind, readRecord}
 use Rattle.item.specs.declared.Version.{Version}
 use Rattle.item.specs.declared.Kind.{Kind}
 use Rattle.item.specs.declared.Tag.{Tag}
@@ -93,7 +93,7 @@ kind-had s (got k n) e = refl
 kind-had s runsOut e = e
 kind-had s (refused r) e = refl
 
-pub record-steady : (v : Version) → Steady isOut (readRecord v)
+pub record-stays : (v : Version) → Steady isOut (readRecord v)
 unfolding readRecord
-record-steady v s t at e =
+record-stays v s t at e =
     rw (kind-steady v s t at (kind-had s (readKind v s at) e)) (then-steady s t (readKind v s at) e)

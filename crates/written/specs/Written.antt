@@ -2,9 +2,8 @@
 use Prim.Native.Nat.{ℕ}
 use mathlib.Core.Bool.{Bool, true, false, _&&_}
 use mathlib.Core.List.{List, [], _∷_, _++_}
-use lib.ListN.{length}
 use lib.Dec.{leb, eqb}
-use lib.IntN.{ℤ, pos, negsuc}
+use lib.IntN.{negsuc}
 use lib.Signed.{nonNeg}
 use Rattle.varint.specs.Written.{canonical}
 use Rattle.packer.specs.Texts.{isData, dataBytes}
