@@ -54,7 +54,7 @@ module _ {A : Type 0} where
   int-had k out (ints.Got z next r) e = refl
   int-had k out ints.RunsOut e = sym (ap isOut out) ∙ e
 
-  pub part-had : (k : PartRead → Reading A) → k parts.RunsOut ≡ runsOut → (x : PartRead) → isOut (k x) ≡ false → partOut x ≡ false
+  part-had : (k : PartRead → Reading A) → k parts.RunsOut ≡ runsOut → (x : PartRead) → isOut (k x) ≡ false → partOut x ≡ false
   part-had k out (parts.Got p next) e = refl
   part-had k out parts.RunsOut e = sym (ap isOut out) ∙ e
 
