@@ -83,11 +83,11 @@ step a s m = record { said = a; scalars = s; memory = m }
 
 abbrev pub scalars : Version → ℤ → Bool → Cid → ℤ → Pending → Bool → Scalars
 scalars v t i p m k c =
-    record { version = v; tick = t; in-tick = i; prev-player-cid = p; max-cid = m; next-item-kind = k; closed = c }
+    record { version = v; tick = t; inside = i; remembered = p; largest = m; pending = k; closed = c }
 
 -- after a refusal or finish: closed, with nothing pending
 unfoldable pub closing : Scalars → Scalars
-closing s = scalars (s .version) (s .tick) (s .in-tick) (s .prev-player-cid) (s .max-cid) NoKind true
+closing s = scalars (s .version) (s .tick) (s .inside) (s .remembered) (s .largest) NoKind true
 
 abbrev pub raisedTo : ℤ → Cid → ℤ
 raisedTo m (Of c) = larger m c
@@ -95,23 +95,23 @@ raisedTo m NoCid = m
 
 -- after a record: nothing is pending, and the largest client has risen to the record's
 unfoldable pub raising : Cid → Scalars → Scalars
-raising c s = scalars (s .version) (s .tick) (s .in-tick) (s .prev-player-cid) (raisedTo (s .max-cid) c) NoKind (s .closed)
+raising c s = scalars (s .version) (s .tick) (s .inside) (s .remembered) (raisedTo (s .largest) c) NoKind (s .closed)
 
 -- after a player record of the client c, which is remembered too
 unfoldable pub naming : ℤ → Scalars → Scalars
-naming c s = scalars (s .version) (s .tick) (s .in-tick) (Of c) (larger (s .max-cid) c) NoKind (s .closed)
+naming c s = scalars (s .version) (s .tick) (s .inside) (Of c) (larger (s .largest) c) NoKind (s .closed)
 
 -- a tick starts, and the kind is pending
 unfoldable pub starting : Kind → Scalars → Scalars
-starting k s = scalars (s .version) (s .tick) true (s .prev-player-cid) (s .max-cid) (Is k) (s .closed)
+starting k s = scalars (s .version) (s .tick) true (s .remembered) (s .largest) (Is k) (s .closed)
 
 -- a tick ends, and the kind is pending: the tick and the remembered client that it leaves
 unfoldable pub ending : ℤ → Cid → Kind → Scalars → Scalars
-ending t p k s = scalars (s .version) t false p (s .max-cid) (Is k) (s .closed)
+ending t p k s = scalars (s .version) t false p (s .largest) (Is k) (s .closed)
 
 -- after a TickSkip: the remembered client stays
 unfoldable pub skipping : ℤ → Bool → Scalars → Scalars
-skipping t i s = scalars (s .version) t i (s .prev-player-cid) (s .max-cid) NoKind (s .closed)
+skipping t i s = scalars (s .version) t i (s .remembered) (s .largest) NoKind (s .closed)
 
 unfoldable pub refusal : Refusal → Scalars → Memory → Step
 refusal r s m = step (refusing r) (closing s) m
@@ -183,7 +183,7 @@ inputNew s m (pos c) ns n =
 -- inside, the old tick ends; outside, the new one starts
 abbrev pub skipped : Scalars → Memory → ℕ → Next → Step
 skipped s m n (Tick t) =
-    cond (s .in-tick)
+    cond (s .inside)
     (step (gives (tickEnd (s .tick)) n) (skipping t false s) m)
     (step (gives (tickStart t) n) (skipping t true s) m)
 skipped s m n Past = refusal TickOverflow s m
@@ -243,15 +243,15 @@ atOrBelow c NoCid = false
 atOrBelow c (Of p) = not (ltZ p c)
 
 unfoldable pub playerRule : Scalars → ℤ → Rule
-playerRule s c = cond (s .in-tick) (comesAgain (s .tick) (atOrBelow c (s .prev-player-cid))) Starts
+playerRule s c = cond (s .inside) (comesAgain (s .tick) (atOrBelow c (s .remembered))) Starts
 
 -- a kind other than TickSkip and Finish, and of no player, outside a tick
 abbrev pub otherRule : Scalars → Rule
-otherRule s = cond (s .in-tick) Reads Starts
+otherRule s = cond (s .inside) Reads Starts
 
 unfoldable pub tickRule : Scalars → Kind → Rule
 tickRule s (kinds.PlayerDiff c) = playerRule s c
-tickRule s kinds.Finish = cond (s .in-tick) EndsHere Reads
+tickRule s kinds.Finish = cond (s .inside) EndsHere Reads
 tickRule s kinds.TickSkip = Reads
 tickRule s (kinds.PlayerNew c) = playerRule s c
 tickRule s (kinds.PlayerOld c) = playerRule s c
@@ -274,7 +274,7 @@ abbrev pub withRule : Scalars → Memory → List ℕ → Bool → Kind → ℕ 
 withRule s m w last k n Reads = withRest s m last (readRest k w n)
 withRule s m w last k n Starts = step (gives (tickStart (s .tick)) n) (starting k s) m
 withRule s m w last k n (Ends t) = step (gives (tickEnd (s .tick)) n) (ending t NoCid k s) m
-withRule s m w last k n EndsHere = step (gives (tickEnd (s .tick)) n) (ending (s .tick) (s .prev-player-cid) k s) m
+withRule s m w last k n EndsHere = step (gives (tickEnd (s .tick)) n) (ending (s .tick) (s .remembered) k s) m
 withRule s m w last k n Over = refusal TickOverflow s m
 
 abbrev pub withKind : Scalars → Memory → List ℕ → Bool → Reading Kind → Step
@@ -289,7 +289,7 @@ nextKind v (Is k) w = got k 0
 
 -- a call on an open reader
 unfoldable pub openCall : Scalars → Memory → List ℕ → Bool → Step
-openCall s m w last = withKind s m w last (nextKind (s .version) (s .next-item-kind) w)
+openCall s m w last = withKind s m w last (nextKind (s .version) (s .pending) w)
 
 -- a call on a good reader
 unfoldable pub goodCall : Scalars → Memory → List ℕ → Bool → Step

@@ -144,7 +144,7 @@ goodPending v (Is k) = goodKind v k
 
 unfoldable pub goodScalars : Scalars → Bool
 goodScalars s =
-    nonNeg (s .tick) && (leZ (negsuc 0) (s .max-cid) && goodPending (s .version) (s .next-item-kind))
+    nonNeg (s .tick) && (leZ (negsuc 0) (s .largest) && goodPending (s .version) (s .pending))
 
 unfoldable pub goodReader : Reader → Bool
 goodReader r = goodScalars (r .scalars) && goodEntries (r .entries)
@@ -159,10 +159,10 @@ start v =
     record {
       version = v;
       tick = pos 0;
-      in-tick = false;
-      prev-player-cid = NoCid;
-      max-cid = negsuc 0;
-      next-item-kind = NoKind;
+      inside = false;
+      remembered = NoCid;
+      largest = negsuc 0;
+      pending = NoKind;
       closed = false;
     }
 

@@ -43,10 +43,10 @@ pub struct Entries {
 pub struct Scalars {
     pub version: Version,
     pub tick: i32,
-    pub in_tick: bool,
-    pub prev_player_cid: Cid,
-    pub max_cid: i32,
-    pub next_item_kind: Pending,
+    pub inside: bool,
+    pub remembered: Cid,
+    pub largest: i32,
+    pub pending: Pending,
     pub closed: bool,
 }
 
@@ -117,14 +117,14 @@ pub fn closed(s: Scalars) -> Scalars
     ensures { λ r. ⌜ r ≡ closing s ⌝ }
 {
     let version = s.version;
-    let prev_player_cid = s.prev_player_cid;
+    let remembered = s.remembered;
     Scalars {
         version,
         tick: s.tick,
-        in_tick: s.in_tick,
-        prev_player_cid,
-        max_cid: s.max_cid,
-        next_item_kind: Pending::NoKind,
+        inside: s.inside,
+        remembered,
+        largest: s.largest,
+        pending: Pending::NoKind,
         closed: true,
     }
 }
@@ -158,13 +158,13 @@ fn larger_of(a: i32, b: i32) -> i32
     if a < b { b } else { a }
 }
 
-fn raised_to(max_cid: i32, cid: Cid) -> i32
-    ensures { λ r. ⌜ r ≡ raisedTo max_cid cid ⌝ }
+fn raised_to(largest: i32, cid: Cid) -> i32
+    ensures { λ r. ⌜ r ≡ raisedTo largest cid ⌝ }
 {
     let Cid::Of(c) = cid else {
-        return max_cid;
+        return largest;
     };
-    larger_of(max_cid, c)
+    larger_of(largest, c)
 }
 
 // After a record whose client this is.
@@ -172,15 +172,15 @@ pub fn raised(s: Scalars, cid: Cid) -> Scalars
     ensures { λ r. ⌜ r ≡ raising cid s ⌝ }
 {
     let version = s.version;
-    let prev_player_cid = s.prev_player_cid;
-    let max_cid = raised_to(s.max_cid, cid);
+    let remembered = s.remembered;
+    let largest = raised_to(s.largest, cid);
     Scalars {
         version,
         tick: s.tick,
-        in_tick: s.in_tick,
-        prev_player_cid,
-        max_cid,
-        next_item_kind: Pending::NoKind,
+        inside: s.inside,
+        remembered,
+        largest,
+        pending: Pending::NoKind,
         closed: s.closed,
     }
 }
@@ -190,14 +190,14 @@ pub fn named(s: Scalars, cid: i32) -> Scalars
     ensures { λ r. ⌜ r ≡ naming cid s ⌝ }
 {
     let version = s.version;
-    let max_cid = larger_of(s.max_cid, cid);
+    let largest = larger_of(s.largest, cid);
     Scalars {
         version,
         tick: s.tick,
-        in_tick: s.in_tick,
-        prev_player_cid: Cid::Of(cid),
-        max_cid,
-        next_item_kind: Pending::NoKind,
+        inside: s.inside,
+        remembered: Cid::Of(cid),
+        largest,
+        pending: Pending::NoKind,
         closed: s.closed,
     }
 }
@@ -207,46 +207,46 @@ pub fn started(s: Scalars, kind: Kind) -> Scalars
     ensures { λ r. ⌜ r ≡ starting kind s ⌝ }
 {
     let version = s.version;
-    let prev_player_cid = s.prev_player_cid;
+    let remembered = s.remembered;
     Scalars {
         version,
         tick: s.tick,
-        in_tick: true,
-        prev_player_cid,
-        max_cid: s.max_cid,
-        next_item_kind: Pending::Is(kind),
+        inside: true,
+        remembered,
+        largest: s.largest,
+        pending: Pending::Is(kind),
         closed: s.closed,
     }
 }
 
 // A tick ends, and the kind is pending.
-pub fn ended(s: Scalars, tick: i32, prev_player_cid: Cid, kind: Kind) -> Scalars
-    ensures { λ r. ⌜ r ≡ ending tick prev_player_cid kind s ⌝ }
+pub fn ended(s: Scalars, tick: i32, remembered: Cid, kind: Kind) -> Scalars
+    ensures { λ r. ⌜ r ≡ ending tick remembered kind s ⌝ }
 {
     let version = s.version;
     Scalars {
         version,
         tick,
-        in_tick: false,
-        prev_player_cid,
-        max_cid: s.max_cid,
-        next_item_kind: Pending::Is(kind),
+        inside: false,
+        remembered,
+        largest: s.largest,
+        pending: Pending::Is(kind),
         closed: s.closed,
     }
 }
 
-fn skipped_to(s: Scalars, tick: i32, in_tick: bool) -> Scalars
-    ensures { λ r. ⌜ r ≡ skipping tick in_tick s ⌝ }
+fn skipped_to(s: Scalars, tick: i32, inside: bool) -> Scalars
+    ensures { λ r. ⌜ r ≡ skipping tick inside s ⌝ }
 {
     let version = s.version;
-    let prev_player_cid = s.prev_player_cid;
+    let remembered = s.remembered;
     Scalars {
         version,
         tick,
-        in_tick,
-        prev_player_cid,
-        max_cid: s.max_cid,
-        next_item_kind: Pending::NoKind,
+        inside,
+        remembered,
+        largest: s.largest,
+        pending: Pending::NoKind,
         closed: s.closed,
     }
 }
@@ -278,7 +278,7 @@ pub fn tick_skip(s: Scalars, dt: u32, used: usize) -> Outcome
     let Next::Tick(t) = next_tick(tick, dt) else {
         return refuse(s, Refusal::TickOverflow);
     };
-    if s.in_tick {
+    if s.inside {
         let scalars = skipped_to(s, t, false);
         return Outcome {
             answer: Answer::Event {
@@ -301,10 +301,10 @@ pub fn tick_skip(s: Scalars, dt: u32, used: usize) -> Outcome
 fn player_rule(s: Scalars, cid: i32) -> Rule
     ensures { λ r. ⌜ r ≡ playerRule s cid ⌝ }
 {
-    if !s.in_tick {
+    if !s.inside {
         return Rule::Starts;
     }
-    let prev = s.prev_player_cid;
+    let prev = s.remembered;
     let Cid::Of(p) = prev else {
         return Rule::Reads;
     };
@@ -321,7 +321,7 @@ fn player_rule(s: Scalars, cid: i32) -> Rule
 fn other_rule(s: Scalars) -> Rule
     ensures { λ r. ⌜ r ≡ otherRule s ⌝ }
 {
-    if s.in_tick {
+    if s.inside {
         return Rule::Reads;
     }
     Rule::Starts
@@ -334,7 +334,7 @@ pub fn tick_rule(s: Scalars, kind: Kind) -> Rule
     match kind {
         Kind::PlayerDiff(cid) => player_rule(s, cid),
         Kind::Finish => {
-            if s.in_tick {
+            if s.inside {
                 return Rule::EndsHere;
             }
             Rule::Reads
