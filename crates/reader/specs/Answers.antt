@@ -1,23 +1,15 @@
 -- What the calls on a reader by value hand back, as the definitions say it.
-use Prim.Native.Nat.{ℕ, zero, suc, _+_}
+use Prim.Native.Nat.{ℕ}
 use mathlib.Core.Path.{_≡_}
 use mathlib.Core.Bool.{Bool, true, false, cond}
 use mathlib.Core.List.{List, []}
 use lib.ListN.{take}
-use lib.IntN.{ℤ, pos, negsuc, _+ℤ_}
-use Rattle.refusal.specs.declared.Refusal.the-variants.{UnknownVersion}
-use Rattle.packer.specs.declared.Part.{Part}
+use lib.IntN.{ℤ, pos, negsuc}
 use Rattle.fields.specs.Views.{zeros, argsWith}
 use Rattle.fields.specs.declared.Args.{Args}
 use Rattle.item.specs.Said.{Said, gives, more, finish, refusing}
-use Rattle.item.specs.Records.{Content}
-use Rattle.item.specs.Contents.{itemOf, withBeside, noArgs}
-use Rattle.item.specs.Magic.{versionOf}
-use Rattle.item.specs.declared.Kind.the-variants as kinds
-use Rattle.item.specs.declared.Item.{Item}
-use Rattle.item.specs.declared.VersionOf.{VersionOf}
-use Rattle.item.specs.declared.VersionOf.the-variants as versions
-use Rattle.state.specs.State.{present, xOf, yOf, holds, tenOf, emptyReader}
+use Rattle.item.specs.Contents.{itemOf, withBeside}
+use Rattle.state.specs.State.{present, xOf, yOf, holds, tenOf}
 use Rattle.state.specs.Reading.{Event, other, readCall, readerAfter}
 use Rattle.state.specs.Views.{eventIs}
 use Rattle.state.specs.declared.Entries.{Entries}
@@ -27,17 +19,9 @@ use Rattle.state.specs.declared.Event.the-variants as events
 use Rattle.state.specs.declared.Answer.{Answer}
 use Rattle.state.specs.declared.Answer.the-variants as answers
 use Rattle.reader.specs.declared.ReadAnswer.{ReadAnswer}
-use Rattle.reader.specs.declared.Opened.{Opened}
-use Rattle.reader.specs.declared.Opened.the-variants as opened
 use Rattle.reader.specs.declared.Pos.{Pos}
 use Rattle.reader.specs.declared.Pos.the-variants as places
 use Rattle.reader.specs.declared.InputOf.{InputOf}
-
--- ---- the empty reader
-
-abbrev pub opens : VersionOf → Opened
-opens (versions.Is v) = opened.Open
-opens (versions.Refused r) = opened.Refused r
 
 -- ---- a reading call: an event with the arguments that stand beside a command
 
@@ -55,6 +39,21 @@ saidWith (answers.Event e used) xs = gives (eventWith e xs) used
 saidWith answers.More xs = more
 saidWith (answers.Finish used) xs = finish used
 saidWith (answers.Refused r) xs = refusing r
+
+abbrev pub recordEvent : code.Event → Bool
+recordEvent (events.TickStart t) = false
+recordEvent (events.TickEnd t) = false
+recordEvent (events.PlayerNew c x y) = false
+recordEvent (events.PlayerChange c x y old-x old-y) = false
+recordEvent (events.PlayerOld c x y) = false
+recordEvent (events.Input c former) = false
+recordEvent (events.Record i) = true
+
+abbrev pub isRecord : Answer → Bool
+isRecord (answers.Event e used) = recordEvent e
+isRecord answers.More = false
+isRecord (answers.Finish used) = false
+isRecord (answers.Refused r) = false
 
 -- what it says, the reader that it leaves, the ten numbers and the former ten, and arguments that are padded with empty parts
 pub record ReadIs (reader : Reader) (w : List ℕ) (last : Bool) (r : ReadAnswer) : Type 0 where
