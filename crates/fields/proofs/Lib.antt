@@ -4,3 +4,5 @@ pub mod Taken
 pub mod AllTaken
 pub mod Back
 pub mod Theorems
+pub mod Arguments
+pub mod Inputs
