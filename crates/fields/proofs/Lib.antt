@@ -1,3 +1,4 @@
+pub mod Answers
 pub mod Steady
 pub mod Strings
 pub mod Taken
