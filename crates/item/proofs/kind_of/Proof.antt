@@ -3,12 +3,16 @@ use Prim.Native.Nat.{ℕ}
 use mathlib.Core.Path.{_≡_, sym, ap, _∙_}
 use mathlib.Core.Bool.{true, false}
 use borrow.Author.Needs.{needs}
-use lib.IntN.{ℤ, negsuc}
+use lib.IntN.{negsuc}
 use mir.Syntax.{w32}
 use mir.Val.{toZ, ofZ}
 use mir.Facts.{toZ-ofZ}
-use Rattle.num.proofs.Signs.{flag, key}
+use Rattle.refusal.specs.declared.Refusal.the-variants.{UnknownType}
+use Rattle.num.proofs.Signs.{flag}
+use Rattle.fields.specs.Fields.{refused}
 use Rattle.item.specs.Kinds.{kindOf, extension}
+use Rattle.item.specs.declared.Version.{Version}
+use Rattle.item.specs.declared.Version.the-variants.{V1, V2}
 use Rattle.item.proofs.Arms.{arm, low, high}
 use Rattle.item.proofs.kind_of.Statement.{statement}
 use Rattle.item.proofs.kind_of.Tie as tie
@@ -19,26 +23,32 @@ at : (a : tie.Start) {n : ℕ} → ofZ w32 (a .args .number) ≡ n
     ≡ kindOf (a .args .version) (a .args .s .now) (a .args .number) (a .args .next)
 at a e = arm (a .args .version) (a .args .s .now) (a .args .number) (a .args .next) (a .fits .number) e
 
-back : (a : tie.Start) → toZ w32 (ofZ w32 (a .args .number)) ≡ a .args .number
-back a = toZ-ofZ {w = w32} {z = a .args .number} (a .fits .number)
+-- an extension, by the version
+ex : (a : tie.Start) (v : Version) → a .args .version ≡ v → ofZ w32 (a .args .number) ≡ 4294967285
+    → extension v (a .args .next) ≡ kindOf (a .args .version) (a .args .s .now) (a .args .number) (a .args .next)
+ex a v e k = ap (λ (x : Version). extension x (a .args .next)) (sym e) ∙ at a k
 
 returns-11 : tie.Need-returns-11
 returns-11 c =
-    let a = c .before .before .before .before in
     let k = c .before .before .match .keys11 in
-    rw (back a) (rw (key (a .args .number) (a .fits .number) k) (ap (λ v. extension v (a .args .next)) (sym (c .enum-told .given .1))))
+    ap (λ (n : ℕ). refused (UnknownType (toZ w32 n))) k ∙ ex (c .before .before .before .before) V1 (c .enum-told .given .1) k
+
+returns-12 : tie.Need-returns-12
+returns-12 c = ex (c .before .before .before .before) V2 (c .enum-told2 .given .1) (c .before .before .match .keys11)
 
 returns-13 : tie.Need-returns-13
 returns-13 c =
-    let a = c .before .before .before in
-    rw (back a)
-    (low (a .args .version) (a .args .s .now) (a .args .number) (a .args .next) (flag (a .args .number) (negsuc 10) true (a .fits .number) (c .if1 .taken)))
+    let a = c .before .before .before .args in
+    let f = c .before .before .before .fits .number in
+    rw (toZ-ofZ {w = w32} {z = a .number} f)
+    (low (a .version) (a .s .now) (a .number) (a .next) (flag (a .number) (negsuc 10) true f (c .if1 .taken)))
 
 returns-14 : tie.Need-returns-14
 returns-14 c =
-    let a = c .before .before .before in
-    rw (back a)
-    (high (a .args .version) (a .args .s .now) (a .args .number) (a .args .next) (c .before .match .rest) (flag (a .args .number) (negsuc 10) false (a .fits .number) (c .if1 .left)))
+    let a = c .before .before .before .args in
+    let f = c .before .before .before .fits .number in
+    rw (toZ-ofZ {w = w32} {z = a .number} f)
+    (high (a .version) (a .s .now) (a .number) (a .next) (c .before .match .rest) (flag (a .number) (negsuc 10) false f (c .if1 .left)))
 
 pub kind-of-spec : {M : Type 1} → statement M
 kind-of-spec =
@@ -59,6 +69,6 @@ kind-of-spec =
     (λ c. at (c .before .before) (c .match .keys9))
     (λ c. at (c .before .before) (c .match .keys10))
     returns-11
-    (λ c. ap (λ v. extension v (c .before .before .before .before .args .next)) (sym (c .enum-told2 .given .1)) ∙ at (c .before .before .before .before) (c .before .before .match .keys11))
+    returns-12
     returns-13
     returns-14)
