@@ -12,7 +12,7 @@ use Rattle.fields.specs.Remarks.{fieldRemark, remarks}
 use Rattle.fields.specs.Writing.{AllSorted, writable, allWritable, writeField, writeFields, valueInside, partsInside}
 use Rattle.fields.specs.Laws.{isOut}
 use Rattle.fields.proofs.Steady.{all-steady}
-use Rattle.fields.proofs.Strings.{and-both}
+use Rattle.fields.proofs.Answers.{not-out, not-refused, same-got, and-both}
 use Rattle.fields.proofs.Taken.{Taken, field-taken}
 
 pub record AllTaken (fs : List Field) (s : List ℕ) (at : ℕ) (vs : List (Value Part)) (next : ℕ) : Type 0 where
@@ -36,9 +36,7 @@ module _ (f : Field) (fs : List Field) (s : List ℕ) (at : ℕ) where
   push-taken m v x t (got ws n) y g vs next e =
       let i = g ws n y in
       let w = writeField f (mean s v) in
-      let a : vs ≡ v ∷ ws = cc in
-      let b : next ≡ n = cc in
-      rw (a, b) (record {
+      same-got (AllTaken (f ∷ fs) s at) e (record {
         within = i .within;
         prefix = stays (f ∷ fs) s at (v ∷ ws) n (rw (x, y));
         shows = λ u. rw (t .shows u, i .shows u);
@@ -52,8 +50,8 @@ module _ (f : Field) (fs : List Field) (s : List ℕ) (at : ℕ) where
             ∙ ap (λ l. w ++ l) (i .whole b (omega arith))
             ∙ sym (append-assoc w (writeFields fs (map (mean s) ws)) (drop n s));
       })
-  push-taken m v x t runsOut y g vs next e = let z : _≡_ {A = ℕ} 0 1 = cc in absurd (omega arith)
-  push-taken m v x t (refused r) y g vs next e = let z : _≡_ {A = ℕ} 0 1 = cc in absurd (omega arith)
+  push-taken m v x t runsOut y g vs next e = not-out e
+  push-taken m v x t (refused r) y g vs next e = not-refused e
 
   then-taken : at ≤ length s → (x : Reading (Value Part)) → readField f s at ≡ x
       → ((m : ℕ) → m ≤ length s → (vs : List (Value Part)) (next : ℕ) → readFields fs s m ≡ got vs next → AllTaken fs s m vs next)
@@ -61,14 +59,12 @@ module _ (f : Field) (fs : List Field) (s : List ℕ) (at : ℕ) where
   then-taken h (got v m) x g vs next e =
       let t = field-taken s at h f v m x in
       push-taken m v x t (readFields fs s m) refl (g m (t .within)) vs next e
-  then-taken h runsOut x g vs next e = let z : _≡_ {A = ℕ} 0 1 = cc in absurd (omega arith)
-  then-taken h (refused r) x g vs next e = let z : _≡_ {A = ℕ} 0 1 = cc in absurd (omega arith)
+  then-taken h runsOut x g vs next e = not-out e
+  then-taken h (refused r) x g vs next e = not-refused e
 
 pub fields-taken : (fs : List Field) (s : List ℕ) (at : ℕ) → at ≤ length s → (vs : List (Value Part)) (next : ℕ) → readFields fs s at ≡ got vs next → AllTaken fs s at vs next
 fields-taken [] s at h vs next e =
-    let a : vs ≡ [] = cc in
-    let b : next ≡ at = cc in
-    rw (a, b) (record {
+    same-got (AllTaken [] s at) e (record {
       within = h;
       prefix = λ t. refl;
       shows = λ t. refl;

@@ -22,7 +22,8 @@ use Rattle.packer.proofs.Places.{past, past-within, shown-at, raw-at, string-at
 use Rattle.fields.specs.Fields.{Field, int, dt, mask, str, uuid, blob, args, Value, num, bytes, strings, got, readField, readFields, mean}
 use Rattle.fields.specs.Remarks.{fieldRemark, remarks}
 use Rattle.fields.specs.Writing.{Sorted, AllSorted, allNoZero, writable, allWritable, stringsBytes, writeField, writeFields}
-use Rattle.fields.proofs.Strings.{and-split, args-stood}
+use Rattle.fields.proofs.Answers.{and-split}
+use Rattle.fields.proofs.Strings.{args-stood}
 
 -- one field
 pub record Back (f : Field) (m : Value (List ℕ)) (s : List ℕ) (at : ℕ) : Type 0 where

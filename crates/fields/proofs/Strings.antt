@@ -1,7 +1,7 @@
 -- Strings one after the other: those that were read, and those that stand at a place. Assumes nothing.
 use Prim.Native.Nat.{ℕ, zero, suc, _+_, _≤_}
 use mathlib.Core.Path.{_≡_, refl, sym, _∙_, ap}
-use mathlib.Core.Bool.{Bool, true, false, _&&_}
+use mathlib.Core.Bool.{true}
 use mathlib.Core.List.{List, [], _∷_, _++_, append-assoc, append-nil, map}
 use native.Mathlib.Omega.{arith}
 use native.Mathlib.Nat.{add-zero}
@@ -18,14 +18,7 @@ use Rattle.packer.proofs.Places.{past, past-within, string-at, string-shown}
 use Rattle.packer.proofs.Parts.{string-got, string-taken, string-whole}
 use Rattle.fields.specs.Fields.{got, oneArg, argsFrom}
 use Rattle.fields.specs.Writing.{allNoZero, stringsBytes, inside, allInside}
-
--- both of two tests
-pub and-both : (a b : Bool) → a ≡ true → b ≡ true → (a && b) ≡ true
-and-both a b p q = rw (p, q)
-
-pub and-split : (a b : Bool) → (a && b) ≡ true → (a ≡ true) × (b ≡ true)
-and-split true b e = (refl, e)
-and-split false b e = let z : _≡_ {A = ℕ} 0 1 = cc in absurd (omega arith)
+use Rattle.fields.proofs.Answers.{not-out, not-refused, same-got, and-both, and-split}
 
 -- ---- read
 
@@ -76,15 +69,13 @@ one-had n s had at (parts.Got p m) x g ps next e =
     (λ t.
     one-more n s had at m p x ps next
     (g m (had ++ p ∷ []) (string-taken s at m p x .within) (omega (arith, length-append had (p ∷ []), ltb-true (length had) 16 t)) ps next (rw t at e)))
-    (λ t. let q = rw t at e in let z : _≡_ {A = ℕ} 0 1 = cc in absurd (omega arith))
-one-had n s had at parts.RunsOut x g ps next e = let z : _≡_ {A = ℕ} 0 1 = cc in absurd (omega arith)
+    (λ t. not-refused (rw t at e))
+one-had n s had at parts.RunsOut x g ps next e = not-out e
 
 pub args-had : (n : ℕ) (s : List ℕ) (at : ℕ) (had : List Part) → at ≤ length s → length had ≤ 16 → (ps : List Part) (next : ℕ) → argsFrom n s had at ≡ got ps next → Had n s had at ps next
 unfolding argsFrom allNoZero allInside stringsBytes
 args-had zero s at had h l ps next e =
-    let a : ps ≡ had = cc in
-    let b : next ≡ at = cc in
-    rw (a, b) (record {
+    same-got (Had zero s had at) e (record {
       more = [];
       same = sym (append-nil had);
       count = refl;

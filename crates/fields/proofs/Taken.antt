@@ -54,7 +54,8 @@ use Rattle.fields.specs.Fields.{
 }
 use Rattle.fields.specs.Remarks.{remarkCount, fieldRemark}
 use Rattle.fields.specs.Writing.{Sorted, writable, writeField, allNoZero, stringsBytes, valueInside}
-use Rattle.fields.proofs.Strings.{args-had, and-both, string-inside}
+use Rattle.fields.proofs.Answers.{not-out, not-refused, same-got, and-both}
+use Rattle.fields.proofs.Strings.{args-had, string-inside}
 
 pub record Taken (f : Field) (s : List ℕ) (at : ℕ) (v : Value Part) (next : ℕ) : Type 0 where
   pub within : next ≤ length s
@@ -179,50 +180,33 @@ module _ (s : List ℕ) (at : ℕ) (h : at ≤ length s) where
   -- ---- a field, by what reading it says
 
   int-by : (i : IntRead) → readInt s at ≡ i → (v : Value Part) (next : ℕ) → intField i ≡ got v next → Taken int s at v next
-  int-by (ints.Got z m k) e v next g =
-      let a : v ≡ num z = cc in
-      let b : next ≡ m = cc in
-      rw (a, b) (int-taken z m k e)
-  int-by ints.RunsOut e v next g = let z : _≡_ {A = ℕ} 0 1 = cc in absurd (omega arith)
+  int-by (ints.Got z m k) e v next g = same-got (Taken int s at) g (int-taken z m k e)
+  int-by ints.RunsOut e v next g = not-out g
 
   dt-by : (i : IntRead) → readInt s at ≡ i → (v : Value Part) (next : ℕ) → dtField i ≡ got v next → Taken dt s at v next
-  dt-by (ints.Got (pos n) m k) e v next g =
-      let a : v ≡ num (pos n) = cc in
-      let b : next ≡ m = cc in
-      rw (a, b) (dt-taken n m k e)
-  dt-by (ints.Got (negsuc n) m k) e v next g = let z : _≡_ {A = ℕ} 0 1 = cc in absurd (omega arith)
-  dt-by ints.RunsOut e v next g = let z : _≡_ {A = ℕ} 0 1 = cc in absurd (omega arith)
+  dt-by (ints.Got (pos n) m k) e v next g = same-got (Taken dt s at) g (dt-taken n m k e)
+  dt-by (ints.Got (negsuc n) m k) e v next g = not-refused g
+  dt-by ints.RunsOut e v next g = not-out g
 
   mask-by : (i : IntRead) → readInt s at ≡ i → (v : Value Part) (next : ℕ) → maskField i ≡ got v next → Taken mask s at v next
-  mask-by (ints.Got z m k) e v next g =
-      let a : v ≡ num (pos (ofZ w32 z)) = cc in
-      let b : next ≡ m = cc in
-      rw (a, b) (mask-taken z m k e)
-  mask-by ints.RunsOut e v next g = let z : _≡_ {A = ℕ} 0 1 = cc in absurd (omega arith)
+  mask-by (ints.Got z m k) e v next g = same-got (Taken mask s at) g (mask-taken z m k e)
+  mask-by ints.RunsOut e v next g = not-out g
 
   part-by : (f : Field) (x : PartRead) → ((p : Part) (m : ℕ) → x ≡ parts.Got p m → Taken f s at (bytes p) m) → (v : Value Part) (next : ℕ)
       → partField x ≡ got v next → Taken f s at v next
-  part-by f (parts.Got p m) g v next e =
-      let q = g p m refl in
-      let a : v ≡ bytes p = cc in
-      let b : next ≡ m = cc in
-      rw (a, b) q
-  part-by f parts.RunsOut g v next e = let z : _≡_ {A = ℕ} 0 1 = cc in absurd (omega arith)
+  part-by f (parts.Got p m) g v next e = same-got (Taken f s at) e (g p m refl)
+  part-by f parts.RunsOut g v next e = not-out e
 
   strings-by : (x : Reading (List Part)) → ((ps : List Part) (m : ℕ) → x ≡ got ps m → Taken args s at (strings ps) m) → (v : Value Part) (next : ℕ)
       → asStrings x ≡ got v next → Taken args s at v next
-  strings-by (got ps m) g v next e =
-      let q = g ps m refl in
-      let a : v ≡ strings ps = cc in
-      let b : next ≡ m = cc in
-      rw (a, b) q
-  strings-by runsOut g v next e = let z : _≡_ {A = ℕ} 0 1 = cc in absurd (omega arith)
-  strings-by (refused r) g v next e = let z : _≡_ {A = ℕ} 0 1 = cc in absurd (omega arith)
+  strings-by (got ps m) g v next e = same-got (Taken args s at) e (g ps m refl)
+  strings-by runsOut g v next e = not-out e
+  strings-by (refused r) g v next e = not-refused e
 
   args-by : (i : IntRead) → readInt s at ≡ i → (v : Value Part) (next : ℕ) → argsField s i ≡ got v next → Taken args s at v next
   args-by (ints.Got (pos n) m k) e v next g = strings-by (argsFrom n s [] m) (args-taken n m k e) v next g
-  args-by (ints.Got (negsuc n) m k) e v next g = let z : _≡_ {A = ℕ} 0 1 = cc in absurd (omega arith)
-  args-by ints.RunsOut e v next g = let z : _≡_ {A = ℕ} 0 1 = cc in absurd (omega arith)
+  args-by (ints.Got (negsuc n) m k) e v next g = not-refused g
+  args-by ints.RunsOut e v next g = not-out g
 
   pub field-taken : (f : Field) (v : Value Part) (next : ℕ) → readField f s at ≡ got v next → Taken f s at v next
   field-taken int v next e = int-by (readInt s at) refl v next e

@@ -1,7 +1,7 @@
 -- What a part that was read tells of the window. Assumes nothing.
-use Prim.Native.Nat.{ℕ, suc, _+_, _-_, _≤_, _<_}
+use Prim.Native.Nat.{ℕ, suc, _+_, _-_, _≤_}
 use mathlib.Core.Path.{_≡_, refl, sym, _∙_, ap}
-use mathlib.Core.Bool.{true, false}
+use mathlib.Core.Bool.{true}
 use mathlib.Core.List.{List, [], _∷_, _++_, append-assoc}
 use native.Mathlib.Omega.{arith}
 use native.Mathlib.Nat.{add-zero, zero-add}
@@ -27,7 +27,7 @@ use Rattle.packer.specs.declared.Part.{Part}
 use Rattle.packer.specs.declared.PartRead.{PartRead}
 use Rattle.packer.specs.declared.PartRead.the-variants.{Got, RunsOut}
 use Rattle.packer.proofs.Reading.{raw-fits, shown-in}
-use Rattle.packer.proofs.Places.{past, past-within, shown-at, string-at, string-shown}
+use Rattle.packer.proofs.Places.{past, past-within, string-at, string-shown}
 
 -- from `at` to `next` a window holds w
 abbrev pub Whole : List ℕ → ℕ → ℕ → List ℕ → Type 0

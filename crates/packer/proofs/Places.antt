@@ -1,5 +1,5 @@
 -- What stands at a place of a window: `drop at s ≡ w ++ rest`. Raw bytes, strings and data that stand at a place. Assumes nothing.
-use Prim.Native.Nat.{ℕ, suc, _+_, _≤_, _<_}
+use Prim.Native.Nat.{ℕ, suc, _+_, _≤_}
 use mathlib.Core.Path.{_≡_, sym, _∙_, ap}
 use mathlib.Core.Bool.{true}
 use mathlib.Core.List.{List, [], _∷_, _++_, append-assoc}
@@ -10,7 +10,6 @@ use lib.Seq.{drop-drop, drop-append-seam, take-append-seam}
 use lib.IntN.{pos}
 use borrow.Author.Tests.{leb-true}
 use Rattle.varint.specs.Integers.{readInt}
-use Rattle.varint.specs.Written.{canonical}
 use Rattle.varint.specs.declared.Remark.the-variants.{None}
 use Rattle.varint.specs.declared.IntRead.the-variants as ints
 use Rattle.varint.proofs.Prefix.{canonical-at}
@@ -18,7 +17,7 @@ use Rattle.packer.specs.Parts.{part, shown, readRaw, stringFrom, readStr
 use Rattle.packer.specs.Texts.{noZero, stringBytes, isData, dataBytes}
 use Rattle.packer.specs.declared.PartRead.the-variants.{Got}
 use Rattle.packer.proofs.Reading.{raw-fits, shown-in}
-use Rattle.packer.proofs.Texts.{no-zero-head}
+use Rattle.packer.proofs.Texts.{no-zero-head, lead}
 
 module _ (s w rest : List ℕ) (at : ℕ) (e : drop at s ≡ w ++ rest) where
   pub past : drop (at + length w) s ≡ rest
@@ -52,28 +51,27 @@ module _ (s b rest : List ℕ) (at : ℕ) (clean : noZero b ≡ true) (e : drop 
   string-shown h = shown-at s b (0 ∷ rest) at (e ∙ append-assoc b (0 ∷ []) rest) h
 
 module _ (s b rest : List ℕ) (at : ℕ) (small : isData b ≡ true) (e : drop at s ≡ dataBytes b ++ rest) where
-  data-parts : drop at s ≡ canonical (pos (length b)) ++ (b ++ rest)
-  data-parts = e ∙ append-assoc (canonical (pos (length b))) b rest
+  data-parts : drop at s ≡ lead b ++ (b ++ rest)
+  data-parts = e ∙ append-assoc (lead b) b rest
 
   -- the length that stands there
-  pub length-at : readInt s at ≡ ints.Got (pos (length b)) (at + length (canonical (pos (length b)))) None
+  pub length-at : readInt s at ≡ ints.Got (pos (length b)) (at + length (lead b)) None
   length-at =
       canonical-at (pos (length b)) (record { sfits = omega (arith, leb-true (length b) 2147483647 small) }) s (b ++ rest) at data-parts
 
   module _ (h : at ≤ length s) where
     -- the bytes past the length
-    body-at : drop (at + length (canonical (pos (length b)))) s ≡ b ++ rest
-    body-at = past s (canonical (pos (length b))) (b ++ rest) at data-parts
+    body-at : drop (at + length (lead b)) s ≡ b ++ rest
+    body-at = past s (lead b) (b ++ rest) at data-parts
 
-    body-within : at + length (canonical (pos (length b))) ≤ length s
-    body-within = past-within s (canonical (pos (length b))) (b ++ rest) at data-parts h
+    body-within : at + length (lead b) ≤ length s
+    body-within = past-within s (lead b) (b ++ rest) at data-parts h
 
-    pub data-at : readData s at ≡ Got (part (at + length (canonical (pos (length b)))) (length b)) (at + length (dataBytes b))
+    pub data-at : readData s at ≡ Got (part (at + length (lead b)) (length b)) (at + length (dataBytes b))
     unfolding readData
     data-at =
-        let c = canonical (pos (length b)) in
-        let q : at + length c + length b ≡ at + length (dataBytes b) = omega (arith, length-append c b) in
-        rw length-at (raw-at s b rest (at + length c) body-at body-within ∙ rw q)
+        let q : at + length (lead b) + length b ≡ at + length (dataBytes b) = omega (arith, length-append (lead b) b) in
+        rw length-at (raw-at s b rest (at + length (lead b)) body-at body-within ∙ rw q)
 
-    pub data-shown : shown s (part (at + length (canonical (pos (length b)))) (length b)) ≡ b
-    data-shown = shown-at s b rest (at + length (canonical (pos (length b)))) body-at body-within
+    pub data-shown : shown s (part (at + length (lead b)) (length b)) ≡ b
+    data-shown = shown-at s b rest (at + length (lead b)) body-at body-within

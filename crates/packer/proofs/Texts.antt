@@ -1,15 +1,17 @@
 -- Laws of the definitions of specs/Texts.antt. Assumes nothing.
-use Prim.Native.Nat.{ℕ, _+_, _≤_, _<_}
+use Prim.Native.Nat.{ℕ, _+_, _<_}
 use mathlib.Core.Path.{_≡_}
-use mathlib.Core.Bool.{Bool, true, false}
-use mathlib.Core.List.{List, [], _∷_}
+use mathlib.Core.Bool.{true, false}
+use mathlib.Core.List.{List, _∷_}
 use native.Mathlib.Omega.{arith}
 use native.Mathlib.Numerals.{add-one}
 use lib.ListN.{length, getD, drop}
 use lib.Seq.{drop-cons}
 use lib.Dec.{eqb}
+use lib.IntN.{pos}
 use borrow.Author.Tests.{eq-eqb, ne-eqb}
 use Rattle.num.proofs.Cases.{by-bool}
+use Rattle.varint.specs.Written.{canonical}
 use Rattle.packer.specs.Texts.{noZero}
 
 -- one byte
@@ -28,3 +30,7 @@ no-zero-head b bs e =
     by-bool (eqb b 0)
     (λ t. let q : false ≡ true = rw t at e in let z : _≡_ {A = ℕ} 0 1 = cc in absurd (omega arith))
     (λ t. (t, rw t at e))
+
+-- what stands before data: its length
+abbrev pub lead : List ℕ → List ℕ
+lead b = canonical (pos (length b))

@@ -18,28 +18,26 @@ use Rattle.packer.specs.declared.PartRead.the-variants.{Got, RunsOut}
 
 -- ---- written and read again, whatever stands before and after
 
--- what an answer says of a window: the part begins at `start` and shows b, and `next` is the place past what was used
-abbrev pub Shows : PartRead → List ℕ → ℕ → List ℕ → ℕ → Type 0
-Shows answer s start b next = (answer ≡ Got (part start (length b)) next) × (shown s (part start (length b)) ≡ b)
+-- reading at a place of a window finds b: the part begins at `start` and shows b, and `next` is the place past what was used
+abbrev pub Finds : (List ℕ → ℕ → PartRead) → List ℕ → ℕ → ℕ → List ℕ → ℕ → Type 0
+Finds read s at start b next = (read s at ≡ Got (part start (length b)) next) × (shown s (part start (length b)) ≡ b)
 
 abbrev pub StringWrittenReads : Type 0
 StringWrittenReads =
     (b before after : List ℕ) → noZero b ≡ true
-    → Shows (readString (before ++ stringBytes b ++ after) (length before)) (before ++ stringBytes b ++ after) (length before) b
-    (length before + length (stringBytes b))
+    → Finds readString (before ++ stringBytes b ++ after) (length before) (length before) b (length before + length (stringBytes b))
 
 -- the part begins after the length
 abbrev pub DataWrittenReads : Type 0
 DataWrittenReads =
     (b before after : List ℕ) → isData b ≡ true
-    → Shows (readData (before ++ dataBytes b ++ after) (length before)) (before ++ dataBytes b ++ after)
-    (length before + length (canonical (pos (length b)))) b (length before + length (dataBytes b))
+    → Finds readData (before ++ dataBytes b ++ after) (length before) (length before + length (canonical (pos (length b)))) b
+    (length before + length (dataBytes b))
 
 abbrev pub RawWrittenReads : Type 0
 RawWrittenReads =
     (b before after : List ℕ)
-    → Shows (readRaw (length b) (before ++ b ++ after) (length before)) (before ++ b ++ after) (length before) b
-    (length before + length b)
+    → Finds (readRaw (length b)) (before ++ b ++ after) (length before) (length before) b (length before + length b)
 
 -- ---- read and written again: the bytes used are the written form of what the part shows, which has one
 

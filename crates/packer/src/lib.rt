@@ -1,6 +1,5 @@
 // Strings, data and raw bytes (packer/src/lib.rs, Unpacker and Packer). What is read is a place and a length in the caller's window.
 ghost use mathlib.Core.Path.{_≡_};
-ghost use mathlib.Core.List.{[], _∷_};
 ghost use Prim.Native.Nat.{_+_, _≤_};
 ghost use lib.ListN.{length};
 ghost use Rattle.varint.specs.Written.{written, wrote, writtenIf, wroteIf};

@@ -4,6 +4,7 @@ use mathlib.Core.Path.{_≡_}
 use mathlib.Core.Bool.{Bool, true, false, cond}
 use mathlib.Core.List.{List, [], _∷_}
 use lib.IntN.{ℤ}
+use lib.ListN.{length, take}
 use Rattle.refusal.specs.declared.Refusal.the-variants.{UnexpectedEnd}
 use Rattle.packer.specs.declared.Part.{Part}
 use Rattle.fields.specs.Fields.{bytes, Reading, got, runsOut, refused}
@@ -17,7 +18,7 @@ use Rattle.shapes.specs.declared.Fields.{Fields}
 use Rattle.item.specs.Said.{Said, gives, more, refusing}
 use Rattle.item.specs.Extensions.{Payload, shaped, whole, unknown}
 use Rattle.item.specs.Records.{Content, content, readRest, readRecord, recordCall}
-use Rattle.item.specs.Contents.{itemOf, recordWith, noArgs, recordOf, blank, tidyRecord}
+use Rattle.item.specs.Contents.{itemOf, ownFields, recordWith, noArgs, recordOf, blank, tidyRecord}
 use Rattle.item.specs.declared.Version.{Version}
 use Rattle.item.specs.declared.Kind.{Kind}
 use Rattle.item.specs.declared.Kind.the-variants as kinds
@@ -39,6 +40,14 @@ use Rattle.records.specs.declared.CallAnswer.the-variants as calls
 use Rattle.records.specs.declared.RecordCall.{RecordCall}
 
 -- ---- a record without what stands beside it
+
+abbrev pub ownContent : Content Part → Content Part
+ownContent c = content (c .tag) (take (length (ownFields (c .tag))) (c .values))
+
+abbrev pub own : Reading (Content Part) → Reading (Content Part)
+own (got c next) = got (ownContent c) next
+own runsOut = runsOut
+own (refused r) = refused r
 
 abbrev pub itemIs : ItemRead → Reading (Content Part)
 itemIs (items.Got i next) = got (itemOf i) next

@@ -12,6 +12,7 @@ ghost use Rattle.item.specs.Contents.{itemOf, fromFields, recordWith, noArgs};
 ghost use Rattle.item.specs.declared.Tag.the-variants.{Plain};
 ghost use Rattle.records.specs.Views.{
   itemIs,
+  own,
   payloadIs,
   exContent,
   restCode,
@@ -475,6 +476,28 @@ pub fn read_rest(kind: Kind, s: &[u8], at: usize) -> RecordRead
         Rest::Dt => whole(read_dt(s, at)),
         Rest::Beside => read_beside(kind, s, at),
         Rest::Extension => whole(read_ex(s, at)),
+    }
+}
+
+// The rest of a record without what stands beside it.
+pub fn read_item(kind: Kind, s: &[u8], at: usize) -> ItemRead
+    ensures { λ r. ⌜ itemIs r ≡ own (readRest kind (now (s .entry)) at) ⌝ }
+{
+    let rest = rest_of(kind);
+    match rest {
+        Rest::Shaped(shape) => read_shaped(kind, shape, s, at),
+        Rest::Dt => read_dt(s, at),
+        Rest::Beside => {
+            let read = read_beside(kind, s, at);
+            let answer = read.answer;
+            let item = read.value.item;
+            match answer {
+                RecordAnswer::Got(next) => ItemRead::Got { item, next },
+                RecordAnswer::RunsOut => ItemRead::RunsOut,
+                RecordAnswer::Refused(r) => ItemRead::Refused(r),
+            }
+        }
+        Rest::Extension => read_ex(s, at),
     }
 }
 

@@ -1,8 +1,8 @@
 -- An integer that stands at a place of a list: read back, within 32 bits, and not changed by what follows. Assumes nothing.
-use Prim.Native.Nat.{ℕ, zero, suc, _+_, _-_, _≤_, _<_}
-use mathlib.Core.Path.{_≡_, refl, sym, _∙_, ap}
+use Prim.Native.Nat.{ℕ, _+_, _-_, _≤_, _<_}
+use mathlib.Core.Path.{_≡_, refl, sym, _∙_}
 use mathlib.Core.List.{List, [], _∷_, _++_}
-use mathlib.Core.Bool.{true, false, cond}
+use mathlib.Core.Bool.{cond}
 use native.Mathlib.Omega.{arith}
 use native.Mathlib.Nat.{add-zero}
 use lib.ListN.{length, getD, take, drop, length-drop, take-append-drop}
@@ -12,15 +12,14 @@ use lib.IntN.{ℤ}
 use mir.Syntax.{w32}
 use mir.Val.{SFits}
 use Rattle.varint.specs.Integers.{amount, signOf, isLast, valueOf, readFrom, readInt}
-use Rattle.varint.specs.Written.{canonical, laterBytes, firstByte}
+use Rattle.varint.specs.Written.{canonical, firstByte}
 use Rattle.num.proofs.Cases.{by-bool}
 use Rattle.num.proofs.Signs.{reads-fit}
 use Rattle.varint.proofs.RoundTrip.{from-start}
 use Rattle.varint.proofs.Back.{read-canonical}
 use Rattle.varint.specs.declared.Remark.{Remark}
 use Rattle.varint.specs.declared.Remark.the-variants.{None}
-use Rattle.varint.specs.declared.IntRead.{IntRead}
-use Rattle.varint.specs.declared.IntRead.the-variants.{Got, RunsOut}
+use Rattle.varint.specs.declared.IntRead.the-variants.{Got}
 
 -- the reading depends on the bytes from its place on
 from-drop : (s : List ℕ) (at : ℕ) → readInt s at ≡ readFrom (drop at s) at 0 (signOf (getD (drop at s) 0 0)) 0

@@ -1,5 +1,4 @@
--- The written form is read back: its value, no remark, all its bytes used. And what is read without a remark is the written form.
--- Assumes nothing.
+-- The written form is read back: its value, no remark, all its bytes used. Assumes nothing.
 use Prim.Native.Nat.{ℕ, zero, suc, _+_, _*_, _-_, _/_, _%_, _≤_, _<_}
 use mathlib.Core.Path.{_≡_, refl, sym, _∙_, ap}
 use mathlib.Core.List.{List, [], _∷_, _++_, append-assoc}

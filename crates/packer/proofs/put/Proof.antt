@@ -1,10 +1,10 @@
--- `packer::put` meets its contract. The loop's invariant: the bytes still to come make of the target what all of them make of it. Assumes nothing.
-use Prim.Native.Nat.{ℕ, suc, _+_, _-_, _≤_}
-use mathlib.Core.Path.{_≡_, refl, sym, _∙_, ap}
+-- `packer::put` meets its contract. The loop's invariant: the bytes still to come make of the target what all of them make of it.
+-- Assumes nothing.
+use Prim.Native.Nat.{_+_, _-_, _≤_}
+use mathlib.Core.Path.{_≡_, refl, sym, _∙_}
 use native.Mathlib.Omega.{arith}
 use native.Mathlib.Nat.{add-zero}
-use native.Mathlib.Numerals.{add-one}
-use lib.ListN.{length, drop, set, length-set, drop-of-length-le}
+use lib.ListN.{length, drop, length-set, drop-of-length-le}
 use lib.Seq.{sets}
 use Rattle.packer.proofs.Joined.{sets-step}
 use Rattle.varint.proofs.Writing.{fits-written}

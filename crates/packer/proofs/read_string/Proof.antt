@@ -1,6 +1,6 @@
 -- `packer::read_string` meets its contract. The loop's invariant: what is left to read from `i` is the answer. Assumes nothing.
 use Prim.Native.Nat.{_+_, _-_, _≤_}
-use mathlib.Core.Path.{_≡_, sym, _∙_, refl}
+use mathlib.Core.Path.{_≡_, sym, _∙_}
 use native.Mathlib.Omega.{arith}
 use lib.ListN.{length, drop, drop-of-length-le}
 use Rattle.packer.specs.Parts.{readString, stringFrom}

@@ -1,7 +1,7 @@
 -- `packer::write_data` meets its contract. Assumes nothing.
 use Prim.Native.Nat.{ℕ, _+_, _≤_}
-use mathlib.Core.Path.{_≡_, refl, sym, _∙_, ap}
-use mathlib.Core.Bool.{true, false}
+use mathlib.Core.Path.{_≡_, refl, sym, _∙_}
+use mathlib.Core.Bool.{true}
 use native.Mathlib.Omega.{arith}
 use borrow.Author.Needs.{needs}
 use borrow.Author.Tests.{le-leb, lt-leb}
@@ -9,11 +9,11 @@ use lib.ListN.{length, length-append}
 use lib.IntN.{pos}
 use mir.Syntax.{w32}
 use mir.Facts.{toZ-pos}
-use Rattle.varint.specs.Written.{canonical}
-use Rattle.varint.specs.declared.Wrote.the-variants.{Past, Refused}
+use Rattle.varint.specs.declared.Wrote.the-variants.{Past}
 use Rattle.varint.proofs.Writing.{canonical-le, fits-answer, short}
 use Rattle.packer.specs.Texts.{isData, dataBytes}
 use Rattle.packer.proofs.Joined.{Put, put-answer, first-fits, next-fits, two-puts}
+use Rattle.packer.proofs.Texts.{lead}
 use Rattle.packer.proofs.write_data.Statement.{statement}
 use Rattle.packer.proofs.write_data.Tie as tie
 
@@ -23,7 +23,7 @@ returns c = rw (lt-leb (length (c .before .before .before .args .b .now)) 214748
 small : (c : tie.Else1) → isData (c .before .before .before .args .b .now) ≡ true
 small c = le-leb (length (c .before .before .before .args .b .now)) 2147483647 (c .if1 .left)
 
-size-is : (c : tie.After-int-size) → c .int-size .result ≡ length (canonical (pos (length (c .before .before .before .before .args .b .now))))
+size-is : (c : tie.After-int-size) → c .int-size .result ≡ length (lead (c .before .before .before .before .args .b .now))
 size-is c = c .int-size .ensures ∙ rw (toZ-pos w32 {n = length (c .before .before .before .before .args .b .now)} (omega arith))
 
 add-size : tie.Need-add-size
@@ -39,21 +39,20 @@ returns-3 c =
     let a = c .before .before .before .before .before .before .args in
     let b = a .b .now in
     rw (small (c .before .before .before))
-    (short (a .out .now) (a .at) (dataBytes b) (omega (arith, size-is (c .before .before), length-append (canonical (pos (length b))) b)))
+    (short (a .out .now) (a .at) (dataBytes b) (omega (arith, size-is (c .before .before), length-append (lead b) b)))
 
 -- past the tests the whole form fits
-whole-fits : (c : tie.Else3) → c .before .before .before .before .before .before .args .at + length (dataBytes (c .before .before .before .before .before .before .args .b .now)) ≤ length (c .before .before .before .before .before .before .args .out .now)
+whole-fits : (c : tie.Else3) → let a = c .before .before .before .before .before .before .args in a .at + length (dataBytes (a .b .now)) ≤ length (a .out .now)
 whole-fits c =
     let b = c .before .before .before .before .before .before .args .b .now in
-    omega (arith, size-is (c .before .before), length-append (canonical (pos (length b))) b)
+    omega (arith, size-is (c .before .before), length-append (lead b) b)
 
 -- so the length is written
-length-answer : (c : tie.After-write-int) → Past (c .before .before .before .before .before .before .before .before .args .at + length (canonical (pos (length (c .before .before .before .before .before .before .before .before .args .b .now))))) ≡ c .write-int .result
+length-answer : (c : tie.After-write-int) → let a = c .before .before .before .before .before .before .before .before .args in Past (a .at + length (lead (a .b .now))) ≡ c .write-int .result
 length-answer c =
     let a = c .before .before .before .before .before .before .before .before .args in
     let b = a .b .now in
-    let n = canonical (pos (length b)) in
-    fits-answer (a .out .now) (a .at) n (first-fits (a .out .now) (a .at) n b (whole-fits (c .before .before)))
+    fits-answer (a .out .now) (a .at) (lead b) (first-fits (a .out .now) (a .at) (lead b) b (whole-fits (c .before .before)))
     ∙ sym (rw (toZ-pos w32 {n = length b} (omega arith)) at (c .write-int .ensures .0))
 
 returns-4 : tie.Need-returns-4
@@ -63,27 +62,28 @@ returns-4 c =
     let z : _≡_ {A = ℕ} 0 1 = cc in
     absurd (omega arith)
 
-length-put : (c : tie.After-next) → Put (c .before .before .before .before .before .before .before .before .before .before .before .before .args .out .now) (c .before .before .before .before .before .before .before .before .before .before .before .before .args .at) (canonical (pos (length (c .before .before .before .before .before .before .before .before .before .before .before .before .args .b .now)))) (c .next .given .0 .0) (c .before .before .before .before .write-int .last .1 .0)
+length-put : (c : tie.After-next) → let w = c .before .before .before .before in let a = w .before .before .before .before .before .before .before .before .args in Put (a .out .now) (a .at) (lead (a .b .now)) (c .next .given .0 .0) (w .write-int .last .1 .0)
 length-put c =
-    let q = length-answer (c .before .before .before .before) in
+    let w = c .before .before .before .before in
+    let q = length-answer w in
     let t = c .next .given .1 in
-    (cc, rw (toZ-pos w32 {n = length (c .before .before .before .before .before .before .before .before .before .before .before .before .args .b .now)} (omega arith)) at (c .before .before .before .before .write-int .ensures .1))
+    (cc, rw (toZ-pos w32 {n = length (w .before .before .before .before .before .before .before .before .args .b .now)} (omega arith)) at (w .write-int .ensures .1))
 
 put-requires : tie.Need-put-requires
 put-requires c κs =
-    let a = c .before .before .before .before .before .before .before .before .before .before .before .before .before .before .args in
+    let e = c .before .before .before .before .before .before .before .before in
+    let a = e .before .before .before .before .before .before .args in
     let b = a .b .now in
-    next-fits (a .out .now) (a .at) (canonical (pos (length b))) b (whole-fits (c .before .before .before .before .before .before .before .before)) _ _ (length-put (c .before .before))
+    next-fits (a .out .now) (a .at) (lead b) b (whole-fits e) _ _ (length-put (c .before .before))
 
 returns-5 : tie.Need-returns-5
 returns-5 c =
-    let a = c .before .before .before .before .before .before .before .before .before .before .before .before .before .before .before .before .before .args in
+    let e = c .before .before .before .before .before .before .before .before .before .before .before in
+    let a = e .before .before .before .before .before .before .args in
     let b = a .b .now in
-    let n = canonical (pos (length b)) in
-    let h = whole-fits (c .before .before .before .before .before .before .before .before .before .before .before) in
-    rw (small (c .before .before .before .before .before .before .before .before .before .before .before .before .before .before))
-    (put-answer (a .out .now) (a .at) (dataBytes b) h _ _
-    (two-puts (a .out .now) (a .at) n b h _ _ (length-put (c .before .before .before .before .before)) _ _ (c .before .before .put .ensures)))
+    rw (small (e .before .before .before))
+    (put-answer (a .out .now) (a .at) (dataBytes b) (whole-fits e) _ _
+    (two-puts (a .out .now) (a .at) (lead b) b (whole-fits e) _ _ (length-put (c .before .before .before .before .before)) _ _ (c .before .before .put .ensures)))
 
 pub write-data-spec : {M : Type 1} → statement M
 write-data-spec =
