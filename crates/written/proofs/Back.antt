@@ -14,7 +14,7 @@ use Rattle.packer.specs.Texts.{isData, dataBytes}
 use Rattle.packer.proofs.Places.{past, past-within}
 use Rattle.fields.specs.Fields.{Field, uuid, blob, Value, num, bytes, strings, got}
 use Rattle.fields.specs.Writing.{AllSorted, allWritable, writeFields}
-use Rattle.fields.proofs.Strings.{and-split}
+use Rattle.fields.proofs.Answers.{and-split}
 use Rattle.fields.proofs.Back.{all-back}
 use Rattle.item.specs.Extensions.{Payload, shaped, whole, unknown, count, idAt, payloadAt, find}
 use Rattle.item.specs.Records.{content, Rest, fields, extension, restOf, ofPayload, readRest, readRecord, payloadRemarks, recordRemarks}

@@ -8,7 +8,7 @@ use native.Mathlib.Omega.{arith}
 use native.Mathlib.Nat.{zero-add}
 use lib.ListN.{length, take, drop, length-append, take-append-drop}
 use lib.Seq.{take-add, drop-at, length-take-le}
-use lib.IntN.{pos, negsuc}
+use lib.IntN.{negsuc}
 use Rattle.varint.specs.Written.{canonical}
 use Rattle.packer.specs.Parts.{part, shown, readRaw, readData}
 use Rattle.packer.specs.Texts.{isData, dataBytes}
@@ -16,6 +16,7 @@ use Rattle.packer.specs.declared.Part.{Part}
 use Rattle.packer.specs.declared.PartRead.the-variants.{Got}
 use Rattle.packer.proofs.Places.{past, past-within, shown-at, raw-at, length-at, data-at, data-shown}
 use Rattle.packer.proofs.Reading.{shown-in}
+use Rattle.packer.proofs.Texts.{lead}
 use Rattle.fields.specs.Fields.{Field, Value, got, readFields, mean}
 use Rattle.fields.proofs.AllTaken.{fields-taken}
 use Rattle.item.specs.Extensions.{find, payloadAt}
@@ -33,7 +34,7 @@ ex-split id load rest =
 
 -- the place of the data's bytes, past their length, and the place past them
 abbrev pub loadAt : ℕ → List ℕ → List ℕ → ℕ
-loadAt at id load = at + length id + length (canonical (pos (length load)))
+loadAt at id load = at + length id + length (lead load)
 
 abbrev pub endAt : ℕ → List ℕ → List ℕ → ℕ
 endAt at id load = at + length id + length (dataBytes load)
@@ -73,7 +74,7 @@ module _ (s : List ℕ) (at : ℕ) (id load rest : List ℕ) (starts : at ≤ le
   data-starts = past-within s id (dataBytes load ++ rest) at stands starts
 
   ends : endAt at id load ≡ loadAt at id load + length load
-  ends = omega (arith, length-append (canonical (pos (length load))) load)
+  ends = omega (arith, length-append (lead load) load)
 
   within : endAt at id load ≤ length s
   within = past-within s (dataBytes load) rest (at + length id) data-stands data-starts

@@ -22,6 +22,7 @@ use Rattle.varint.proofs.Prefix.{canonical-at}
 use Rattle.packer.proofs.Places.{past}
 use Rattle.fields.specs.Fields.{int, num, got, refused}
 use Rattle.fields.specs.Remarks.{remarkIn}
+use Rattle.fields.proofs.Answers.{not-out, not-refused, same-got}
 use Rattle.fields.proofs.Taken.{field-taken}
 use Rattle.item.specs.Kinds as item
 use Rattle.item.specs.Kinds.{withClient, kindOf, afterNumber, readKind, kindNumber}
@@ -131,28 +132,18 @@ module _ (v : Version) (s : List ℕ) (at : ℕ) (h : at ≤ length s) (z : ℤ)
   client-taken : (make : ℤ → Kind) → ((c : ℤ) → Numbered v z (make c) (canonical c))
       → ((c : ℤ) → clientRemark (make c) s (ints.Got z n r) ≡ remarkIn (readInt s n)) → (j : IntRead) → readInt s n ≡ j
       → (k : Kind) (next : ℕ) → withClient make j ≡ got k next → KindTaken v s at k next
-  client-taken make x mark (ints.Got c m p) f k next g =
-      let a : k ≡ make c = cc in
-      let b : next ≡ m = cc in
-      rw (a, b) (player-taken (make c) c (x c) (mark c) m p f)
-  client-taken make x mark ints.RunsOut f k next g = let z : _≡_ {A = ℕ} 0 1 = cc in absurd (omega arith)
+  client-taken make x mark (ints.Got c m p) f k next g = same-got (KindTaken v s at) g (player-taken (make c) c (x c) (mark c) m p f)
+  client-taken make x mark ints.RunsOut f k next g = not-out g
 
   sort-taken : Sort v z → (k : Kind) (next : ℕ) → kindOf v s z n ≡ got k next → KindTaken v s at k next
-  sort-taken (alone l x is) k next g =
-      let j = sym (is s n) ∙ g in
-      let a : k ≡ l = cc in
-      let b : next ≡ n = cc in
-      rw (a, b) (alone-taken l x)
+  sort-taken (alone l x is) k next g = same-got (KindTaken v s at) (sym (is s n) ∙ g) (alone-taken l x)
   sort-taken (player make x mark is) k next g = client-taken make x (λ c. mark c s n r) (readInt s n) refl k next (sym (is s n) ∙ g)
-  sort-taken (none q is) k next g =
-      let j = sym (is s n) ∙ g in
-      let z : _≡_ {A = ℕ} 0 1 = cc in
-      absurd (omega arith)
+  sort-taken (none q is) k next g = not-refused (sym (is s n) ∙ g)
 
 number-taken : (v : Version) (s : List ℕ) (at : ℕ) → at ≤ length s → (i : IntRead) → readInt s at ≡ i → (k : Kind) (next : ℕ)
     → afterNumber v s i ≡ got k next → KindTaken v s at k next
 number-taken v s at h (ints.Got z n r) e k next g = sort-taken v s at h z n r e (sort-of v z) k next g
-number-taken v s at h ints.RunsOut e k next g = let z : _≡_ {A = ℕ} 0 1 = cc in absurd (omega arith)
+number-taken v s at h ints.RunsOut e k next g = not-out g
 
 pub kind-taken : (v : Version) (s : List ℕ) (at : ℕ) → at ≤ length s → (k : Kind) (next : ℕ) → readKind v s at ≡ got k next → KindTaken v s at k next
 unfolding readKind

@@ -7,7 +7,7 @@ use native.Mathlib.Omega.{arith}
 use lib.ListN.{length, getD}
 use lib.Dec.{ltb, leb·suc-suc}
 use borrow.Author.Tests.{lt-ltb, le-ltb}
-use Rattle.fields.proofs.Strings.{and-split}
+use Rattle.fields.proofs.Answers.{and-split}
 use Rattle.item.specs.Extensions.{Payload, shaped, whole, unknown, Extension, extensions, count, noExtension, payloadAt}
 
 abbrev pub isKnown : Payload → Bool

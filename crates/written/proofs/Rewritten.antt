@@ -12,7 +12,7 @@ use Rattle.packer.specs.declared.Part.{Part}
 use Rattle.fields.specs.Fields.{int, mask, str, args, Value, strings, got, mean}
 use Rattle.fields.specs.Views.{argsWith}
 use Rattle.fields.specs.Writing.{allNoZero, writable, allWritable, partsInside}
-use Rattle.fields.proofs.Strings.{and-both, and-split}
+use Rattle.fields.proofs.Answers.{and-both, and-split}
 use Rattle.item.specs.Records.{meaning, readRecord, recordRemarks}
 use Rattle.item.specs.Contents.{itemOf, beside, recordOf, tidyKind, tidyTag, tidyRecord}
 use Rattle.item.specs.declared.Version.{Version}

@@ -4,7 +4,7 @@ use lib.Dec.{leb}
 use Rattle.varint.proofs.Theorems.{shorter}
 use Rattle.fields.specs.Writing.{partsInside}
 use Rattle.fields.specs.Laws.{isOut}
-use Rattle.fields.proofs.Strings.{and-split}
+use Rattle.fields.proofs.Answers.{and-split}
 use Rattle.item.specs.Records.{meaning, readRecord}
 use Rattle.item.specs.Contents.{recordOf}
 use Rattle.written.specs.Written.{writeContent, contentWritable, tagCount, recordWritable, recordBytes}

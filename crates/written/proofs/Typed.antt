@@ -10,7 +10,7 @@ use Rattle.packer.specs.declared.Part.{Part}
 use Rattle.packer.proofs.Parts.{shown-length}
 use Rattle.fields.specs.Fields.{Field, int, dt, mask, str, uuid, blob, args, Value, num, bytes, strings, mean}
 use Rattle.fields.specs.Writing.{Sorted, AllSorted, valueInside, partsInside}
-use Rattle.fields.proofs.Strings.{and-split}
+use Rattle.fields.proofs.Answers.{and-split}
 use Rattle.item.specs.declared.Tag.{Tag}
 use Rattle.item.specs.declared.Tag.the-variants.{Plain, Named, Other}
 use Rattle.item.specs.Extensions.{payloadAt}

@@ -17,7 +17,7 @@ use Rattle.packer.specs.declared.PartRead.the-variants as parts
 use Rattle.fields.specs.Fields.{Field, uuid, blob, Value, bytes, Reading, got, runsOut, refused, readFields, mean}
 use Rattle.fields.specs.Remarks.{remarkIn, remarks}
 use Rattle.fields.specs.Writing.{allWritable, writeFields, inside, partsInside}
-use Rattle.fields.proofs.Strings.{and-both}
+use Rattle.fields.proofs.Answers.{not-out, not-refused, same-got, and-both}
 use Rattle.fields.proofs.Taken.{field-taken}
 use Rattle.fields.proofs.AllTaken.{fields-taken}
 use Rattle.item.specs.Kinds.{readKind}
@@ -114,25 +114,19 @@ module _ (v : Version) (ex : hasEx v ≡ true) (s : List ℕ) (b : Bytes s) (at 
       → upTo (endAt at id load) (asContent (Named (find id)) x) ≡ got c next
       → payloadRemarks s (loadPart at id load) (shaped fs) (endAt at id load) ≡ 0 → Same v s c next
   fields-by fs e (got vs m) x c next g r =
-      let a : c ≡ content (Named (find id)) vs = cc in
-      let d : next ≡ endAt at id load = cc in
-      rw (a, d) (shaped-same fs e vs m x (rw x at r))
-  fields-by fs e runsOut x c next g r = let z : _≡_ {A = ℕ} 0 1 = cc in absurd (omega arith)
-  fields-by fs e (refused q) x c next g r = let z : _≡_ {A = ℕ} 0 1 = cc in absurd (omega arith)
+      same-got (Same v s) g (shaped-same fs e vs m x (rw x at r))
+  fields-by fs e runsOut x c next g r = not-out g
+  fields-by fs e (refused q) x c next g r = not-refused g
 
   payload-same : (l : Payload) → payloadAt (find id) ≡ l → (c : Content Part) (next : ℕ)
       → ofPayload s (idPart at id) (loadPart at id load) (find id) l (endAt at id load) ≡ got c next
       → payloadRemarks s (loadPart at id load) l (endAt at id load) ≡ 0 → Same v s c next
   payload-same (shaped fs) e c next g r = fields-by fs e (readFields fs (take (endAt at id load) s) (loadAt at id load)) refl c next g r
   payload-same whole e c next g r =
-      let a : c ≡ content (Named (find id)) (bytes (loadPart at id load) ∷ []) = cc in
-      let d : next ≡ endAt at id load = cc in
-      rw (a, d) (whole-same e)
+      same-got (Same v s) g (whole-same e)
   payload-same unknown e c next g r =
-      let a : c ≡ content Other (bytes (idPart at id) ∷ bytes (loadPart at id load) ∷ []) = cc in
-      let d : next ≡ endAt at id load = cc in
       let h = ltb-false (find id) count (sym (known (find id)) ∙ ap isKnown e) in
-      rw (a, d) (other-same (omega (arith, h, found-le id)))
+      same-got (Same v s) g (other-same (omega (arith, h, found-le id)))
 
 -- an extension that was read without a remark on its length
 record Framed (s : List ℕ) (at : ℕ) : Type 0 where
@@ -154,12 +148,12 @@ data-framed s b at n p h e (parts.Got q m) x c next g r =
           framed s at (shown s p) (shown s q) (drop m s) h (i .sorted) (d .written)
           (i .whole b refl ∙ ap (λ l. shown s p ++ l) (d .whole b (omega arith)));
     }
-data-framed s b at n p h e parts.RunsOut x c next g r = let z : _≡_ {A = ℕ} 0 1 = cc in absurd (omega arith)
+data-framed s b at n p h e parts.RunsOut x c next g r = not-out g
 
 id-framed : (s : List ℕ) → Bytes s → (at : ℕ) → at ≤ length s → (x : PartRead) → readRaw 16 s at ≡ x → (c : Content Part) (next : ℕ)
     → afterId s x ≡ got c next → idRemarks s x ≡ 0 → Framed s at
 id-framed s b at h (parts.Got p n) x c next g r = data-framed s b at n p h x (readData s n) refl c next g r
-id-framed s b at h parts.RunsOut x c next g r = let z : _≡_ {A = ℕ} 0 1 = cc in absurd (omega arith)
+id-framed s b at h parts.RunsOut x c next g r = not-out g
 
 ex-framed : (s : List ℕ) → Bytes s → (at : ℕ) → at ≤ length s → (c : Content Part) (next : ℕ) → readEx s at ≡ got c next → exRemarks s at ≡ 0 → Framed s at
 unfolding readEx exRemarks
@@ -172,11 +166,9 @@ module _ (v : Version) (s : List ℕ) (b : Bytes s) (k : Kind) (n : ℕ) (taken 
   content-same : (fs gs : List Field) → restOf k ≡ fields fs gs → (x : Reading (List (Value Part))) → readFields (fs ++ gs) s n ≡ x
       → asContent (Plain k) x ≡ got c next → remarks (fs ++ gs) s n ≡ 0 → Same v s c next
   content-same fs gs e (got vs m) x g r =
-      let a : c ≡ content (Plain k) vs = cc in
-      let d : next ≡ m = cc in
-      rw (a, d) (fields-same v s b k n taken fs gs e start vs m x r)
-  content-same fs gs e runsOut x g r = let z : _≡_ {A = ℕ} 0 1 = cc in absurd (omega arith)
-  content-same fs gs e (refused q) x g r = let z : _≡_ {A = ℕ} 0 1 = cc in absurd (omega arith)
+      same-got (Same v s) g (fields-same v s b k n taken fs gs e start vs m x r)
+  content-same fs gs e runsOut x g r = not-out g
+  content-same fs gs e (refused q) x g r = not-refused g
 
   rest-same : (rest : Rest) → restOf k ≡ rest → readAs s k rest n ≡ got c next → restRemarks s rest n ≡ 0 → Same v s c next
   rest-same (fields fs gs) e g r = content-same fs gs e (readFields (fs ++ gs) s n) refl g r
@@ -193,8 +185,8 @@ unfolding readRest
 kind-same v s b c next (got k n) x g r =
     let t = kind-taken v s 0 (omega arith) k n x in
     rest-same v s b k n t (t .whole b (omega arith)) c next (restOf k) refl g (omega arith)
-kind-same v s b c next runsOut x g r = let z : _≡_ {A = ℕ} 0 1 = cc in absurd (omega arith)
-kind-same v s b c next (refused q) x g r = let z : _≡_ {A = ℕ} 0 1 = cc in absurd (omega arith)
+kind-same v s b c next runsOut x g r = not-out g
+kind-same v s b c next (refused q) x g r = not-refused g
 
 pub record-same : (v : Version) (s : List ℕ) (c : Content Part) (next : ℕ) → Bytes s → readRecord v s 0 ≡ got c next → recordRemarks v s 0 ≡ 0 → Same v s c next
 unfolding readRecord recordRemarks

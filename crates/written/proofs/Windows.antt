@@ -13,7 +13,7 @@ use Rattle.varint.specs.Laws.{Bytes}
 use Rattle.packer.specs.declared.Part.{Part}
 use Rattle.fields.specs.Fields.{Value, num, bytes, strings}
 use Rattle.fields.specs.Writing.{inside, allInside, valueInside, partsInside}
-use Rattle.fields.proofs.Strings.{and-both, and-split}
+use Rattle.fields.proofs.Answers.{and-both, and-split}
 
 -- the bytes before a place
 pub front : (s w : List ℕ) (n : ℕ) → n ≤ length s → s ≡ w ++ drop n s → w ≡ take n s
