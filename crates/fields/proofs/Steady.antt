@@ -50,7 +50,7 @@ use Rattle.fields.specs.Laws.{isOut}
 -- ---- what an answer tells of the reading that it goes on from
 
 module _ {A : Type 0} where
-  int-had : (k : IntRead → Reading A) → k ints.RunsOut ≡ runsOut → (i : IntRead) → isOut (k i) ≡ false → intOut i ≡ false
+  pub int-had : (k : IntRead → Reading A) → k ints.RunsOut ≡ runsOut → (i : IntRead) → isOut (k i) ≡ false → intOut i ≡ false
   int-had k out (ints.Got z next r) e = refl
   int-had k out ints.RunsOut e = sym (ap isOut out) ∙ e
 

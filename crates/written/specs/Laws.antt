@@ -4,7 +4,6 @@ use mathlib.Core.Path.{_≡_}
 use mathlib.Core.Bool.{Bool, true, false}
 use mathlib.Core.List.{List, [], _∷_, _++_}
 use lib.ListN.{length, take}
-use lib.IntN.{ℤ}
 use mir.Syntax.{w32}
 use mir.Val.{SFits}
 use Rattle.varint.specs.Laws.{Bytes, Steady, Shorter}
@@ -13,7 +12,7 @@ use Rattle.fields.specs.Fields.{Field, int, dt, mask, str, uuid, blob, args, Va
 use Rattle.fields.specs.Writing.{natural32, partsInside}
 use Rattle.fields.specs.Laws.{isOut}
 use Rattle.item.specs.Said.{gives, more}
-use Rattle.item.specs.Extensions.{Payload, shaped, whole, unknown, payloadAt}
+use Rattle.item.specs.Extensions.{payloadAt}
 use Rattle.item.specs.Records.{Content, meaning, restOf, readRecord, recordCall, recordRemarks}
 use Rattle.item.specs.Contents.{recordOf, ownPayload}
 use Rattle.item.specs.declared.Version.{Version}

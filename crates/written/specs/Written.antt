@@ -2,9 +2,8 @@
 use Prim.Native.Nat.{ℕ}
 use mathlib.Core.Bool.{Bool, true, false, _&&_}
 use mathlib.Core.List.{List, [], _∷_, _++_}
-use lib.ListN.{length}
 use lib.Dec.{leb, eqb}
-use lib.IntN.{ℤ, pos, negsuc}
+use lib.IntN.{negsuc}
 use lib.Signed.{nonNeg}
 use Rattle.varint.specs.Written.{canonical}
 use Rattle.packer.specs.Texts.{isData, dataBytes}
@@ -94,10 +93,11 @@ kindWritable kinds.Drop = true
 kindWritable kinds.ConsoleCommand = true
 kindWritable kinds.Ex = false
 
+-- 20 and above are no extensions
 abbrev pub payloadWritable : Payload → List (Value (List ℕ)) → Bool
 payloadWritable (shaped fs) vs = allWritable fs vs
 payloadWritable whole vs = true
-payloadWritable unknown vs = true
+payloadWritable unknown vs = false
 
 abbrev pub tagWritable : Version → Tag → List (Value (List ℕ)) → Bool
 tagWritable v (Plain k) vs = kindWritable k && allWritable (allFields (restOf k)) vs
