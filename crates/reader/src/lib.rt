@@ -219,7 +219,8 @@ fn args_of(answer: Answer, version: Version, pending: Pending, w: &[u8]) -> Args
     };
     if let Kind::ConsoleCommand = kind {
         let rest = records::read_rest(kind, w, next);
-        return rest.value.args;
+        let value = rest.value;
+        return value.args;
     }
     no_args()
 }

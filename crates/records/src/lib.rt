@@ -490,7 +490,8 @@ pub fn read_item(kind: Kind, s: &[u8], at: usize) -> ItemRead
         Rest::Beside => {
             let read = read_beside(kind, s, at);
             let answer = read.answer;
-            let item = read.value.item;
+            let value = read.value;
+            let item = value.item;
             match answer {
                 RecordAnswer::Got(next) => ItemRead::Got { item, next },
                 RecordAnswer::RunsOut => ItemRead::RunsOut,
