@@ -2,7 +2,10 @@
 ghost use mathlib.Core.Path.{_≡_};
 ghost use mathlib.Core.List.{List};
 ghost use Prim.Native.Nat.{ℕ, _<_};
+ghost use mathlib.Core.Bool.{cond};
+ghost use lib.Dec.{ltb};
 ghost use lib.IntN.{ℤ};
+ghost use Rattle.fields.specs.Views.{zeros};
 ghost use Rattle.state.specs.State.{memory, tenOf, putTen};
 ghost use Rattle.state.specs.Reading.{sums, inputDiff, inputNew};
 ghost use Rattle.state.specs.Views.{done};
@@ -132,4 +135,24 @@ pub fn input_new(
     *former = old;
     held[c] = 1;
     event(s, cid, mark == 1, used)
+}
+
+// The ten numbers of a client; zeros where it has no entry.
+pub fn ten_at(inputs: &[i32; 1280], c: usize) -> [i32; 10]
+    ensures { λ r. ⌜ r ≡ cond (ltb c 128) (tenOf (now (inputs .entry)) c) (zeros 10) ⌝ }
+{
+    if 128 <= c {
+        return [0; 10];
+    }
+    take_ten(inputs, c)
+}
+
+// The ten numbers of a client become others; nothing changes where it has no entry.
+pub fn put_ten_at(inputs: &mut [i32; 1280], c: usize, t: [i32; 10])
+    ensures { λ _. ⌜ now (inputs .exit) ≡ cond (ltb c 128) (putTen (now (inputs .entry)) c t) (now (inputs .entry)) ⌝ }
+{
+    if 128 <= c {
+        return;
+    }
+    put_ten(inputs, c, t);
 }
