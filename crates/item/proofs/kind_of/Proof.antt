@@ -3,16 +3,17 @@ use Prim.Native.Nat.{ℕ}
 use mathlib.Core.Path.{_≡_, sym, ap, _∙_}
 use mathlib.Core.Bool.{true, false}
 use borrow.Author.Needs.{needs}
-use lib.IntN.{negsuc}
+use lib.IntN.{ℤ, negsuc}
 use mir.Syntax.{w32}
 use mir.Val.{toZ, ofZ}
 use mir.Facts.{toZ-ofZ}
 use Rattle.refusal.specs.declared.Refusal.the-variants.{UnknownType}
 use Rattle.num.proofs.Signs.{flag}
-use Rattle.fields.specs.Fields.{refused}
+use Rattle.fields.specs.Fields.{got, refused}
 use Rattle.item.specs.Kinds.{kindOf, extension}
 use Rattle.item.specs.declared.Version.{Version}
 use Rattle.item.specs.declared.Version.the-variants.{V1, V2}
+use Rattle.item.specs.declared.Kind.the-variants.{PlayerDiff}
 use Rattle.item.proofs.Arms.{arm, low, high}
 use Rattle.item.proofs.kind_of.Statement.{statement}
 use Rattle.item.proofs.kind_of.Tie as tie
@@ -40,15 +41,15 @@ returns-13 : tie.Need-returns-13
 returns-13 c =
     let a = c .before .before .before .args in
     let f = c .before .before .before .fits .number in
-    rw (toZ-ofZ {w = w32} {z = a .number} f)
-    (low (a .version) (a .s .now) (a .number) (a .next) (flag (a .number) (negsuc 10) true f (c .if1 .taken)))
+    ap (λ (z : ℤ). refused (UnknownType z)) (toZ-ofZ {w = w32} {z = a .number} f)
+    ∙ low (a .version) (a .s .now) (a .number) (a .next) (flag (a .number) (negsuc 10) true f (c .if1 .taken))
 
 returns-14 : tie.Need-returns-14
 returns-14 c =
     let a = c .before .before .before .args in
     let f = c .before .before .before .fits .number in
-    rw (toZ-ofZ {w = w32} {z = a .number} f)
-    (high (a .version) (a .s .now) (a .number) (a .next) (c .before .match .rest) (flag (a .number) (negsuc 10) false f (c .if1 .left)))
+    ap (λ (z : ℤ). got (PlayerDiff z) (a .next)) (toZ-ofZ {w = w32} {z = a .number} f)
+    ∙ high (a .version) (a .s .now) (a .number) (a .next) (c .before .match .rest) (flag (a .number) (negsuc 10) false f (c .if1 .left))
 
 pub kind-of-spec : {M : Type 1} → statement M
 kind-of-spec =
