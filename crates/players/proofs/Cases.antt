@@ -1,6 +1,6 @@
 -- The player records by the tests that the code makes: b is the client's bits. Assumes nothing.
 use Prim.Native.Nat.{ℕ, _≤_, _<_}
-use mathlib.Core.Path.{_≡_, refl, ap, _∙_}
+use mathlib.Core.Path.{_≡_, refl, _∙_}
 use native.Mathlib.Omega.{arith}
 use lib.ListN.{getD}
 use lib.Dec.{ltb}
@@ -8,13 +8,7 @@ use lib.IntN.{ℤ, pos, negsuc, _+ℤ_}
 use borrow.Author.Tests.{lt-ltb, le-ltb}
 use mir.Syntax.{w32}
 use mir.Val.{SFits, ofZ}
-use Rattle.refusal.specs.declared.Refusal.the-variants.{
-  InvalidClientId,
-  ClientTooLarge,
-  PlayerNewDuplicate,
-  PlayerDiffWithoutNew,
-  PlayerOldWithoutNew,
-}
+use Rattle.refusal.specs.declared.Refusal.the-variants.{InvalidClientId, ClientTooLarge, PlayerNewDuplicate, PlayerDiffWithoutNew, PlayerOldWithoutNew}
 use Rattle.num.specs.Wrap.{wrap32}
 use Rattle.item.specs.Said.{gives}
 use Rattle.state.specs.State.{Memory, withEntries, present, xOf, yOf, withPlayer, moved}
