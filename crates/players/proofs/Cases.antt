@@ -8,7 +8,13 @@ use lib.IntN.{ℤ, pos, negsuc, _+ℤ_}
 use borrow.Author.Tests.{lt-ltb, le-ltb}
 use mir.Syntax.{w32}
 use mir.Val.{SFits, ofZ}
-use Rattle.refusal.specs.declared.Refusal.the-variants.{InvalidClientId, ClientTooLarge, PlayerNewDuplicate, PlayerDiffWithoutNew, PlayerOldWithoutNew}
+use Rattle.refusal.specs.declared.Refusal.the-variants.{
+  InvalidClientId,
+  ClientTooLarge,
+  PlayerNewDuplicate,
+  PlayerDiffWithoutNew,
+  PlayerOldWithoutNew,
+}
 use Rattle.num.specs.Wrap.{wrap32}
 use Rattle.item.specs.Said.{gives}
 use Rattle.state.specs.State.{Memory, withEntries, present, xOf, yOf, withPlayer, moved}

@@ -12,7 +12,23 @@ use borrow.Author.Tests.{eqb-true, eqb-false}
 use Rattle.num.proofs.Cases.{by-bool}
 use Rattle.fields.specs.Views.{zeros}
 use Rattle.fields.proofs.Strings.{and-both}
-use Rattle.state.specs.State.{places, puts, putTen, withPlayer, moved, withInput, goodEntry, goodPlayer, goodPlayers, zeroAt, tenZeros, goodInput, goodInputs, goodEntries, noEntries}
+use Rattle.state.specs.State.{
+  places,
+  puts,
+  putTen,
+  withPlayer,
+  moved,
+  withInput,
+  goodEntry,
+  goodPlayer,
+  goodPlayers,
+  zeroAt,
+  tenZeros,
+  goodInput,
+  goodInputs,
+  goodEntries,
+  noEntries,
+}
 use Rattle.state.specs.Laws.{Sizes}
 use Rattle.state.specs.declared.Entries.{Entries}
 use Rattle.state.proofs.Every.{left-of, right-of, every-from, every-map}

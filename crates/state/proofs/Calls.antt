@@ -23,7 +23,41 @@ use Rattle.item.specs.declared.Kind.the-variants as kinds
 use Rattle.item.specs.declared.Tag.{Tag}
 use Rattle.item.specs.declared.Tag.the-variants.{Plain, Named, Other}
 use Rattle.state.specs.State.{Memory, withEntries, present, holds, withPlayer, goodEntries, goodScalars, goodKind}
-use Rattle.state.specs.Reading.{Event, input, Step, step, closing, raising, naming, starting, ending, skipping, refusal, outOf, nextTick, playerDiff, newPlayer, oldPlayer, changed, inputDiff, inputNew, skipped, dtOf, tickSkip, otherRecord, first, second, applyKind, applyTag, apply, tickRule, withRest, withRule, withKind, nextKind, openCall}
+use Rattle.state.specs.Reading.{
+  Event,
+  input,
+  step,
+  closing,
+  raising,
+  naming,
+  starting,
+  ending,
+  skipping,
+  refusal,
+  outOf,
+  nextTick,
+  playerDiff,
+  newPlayer,
+  oldPlayer,
+  changed,
+  inputDiff,
+  inputNew,
+  skipped,
+  dtOf,
+  tickSkip,
+  otherRecord,
+  first,
+  second,
+  applyKind,
+  applyTag,
+  apply,
+  tickRule,
+  withRest,
+  withRule,
+  withKind,
+  nextKind,
+  openCall,
+}
 use Rattle.state.specs.Laws.{Sizes, InTick, Ticked, Keeps, OpenCallKeeps}
 use Rattle.state.specs.declared.Scalars.{Scalars}
 use Rattle.state.specs.declared.Next.{Next}
@@ -32,7 +66,21 @@ use Rattle.state.specs.declared.Rule.{Rule}
 use Rattle.state.specs.declared.Rule.the-variants.{Reads, Starts, Ends, EndsHere, Over}
 use Rattle.state.proofs.Every.{by-cond, left-of, right-of}
 use Rattle.state.proofs.Board.{good-moved, good-placed, good-cleared, good-input, size-moved, size-player, size-input}
-use Rattle.state.proofs.Goods.{good-tick, good-pending, good-closing, good-raising, good-naming, good-starting, good-ending, good-skipping, goodNext, next-good, insideFor, ruleTold, rule-told}
+use Rattle.state.proofs.Goods.{
+  good-tick,
+  good-pending,
+  good-closing,
+  good-raising,
+  good-naming,
+  good-starting,
+  good-ending,
+  good-skipping,
+  goodNext,
+  next-good,
+  insideFor,
+  ruleTold,
+  rule-told,
+}
 use Rattle.state.proofs.Places.{kindTold, next-told, ofKind, restTold, rest-told}
 
 -- the scalars that a record is applied to: those before it, with another largest and remembered client

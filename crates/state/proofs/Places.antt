@@ -18,7 +18,20 @@ use Rattle.fields.specs.Fields.{Field, Value, Reading, got, runsOut, refused, r
 use Rattle.fields.proofs.AllTaken.{fields-taken}
 use Rattle.item.specs.Kinds.{withClient, extension, kindOf, afterNumber, readKind}
 use Rattle.item.specs.Extensions.{Payload, shaped, whole, unknown, find, payloadAt}
-use Rattle.item.specs.Records.{Content, Rest, fields, restOf, asContent, upTo, ofPayload, afterData, afterId, readEx, readAs, readRest}
+use Rattle.item.specs.Records.{
+  Content,
+  Rest,
+  fields,
+  restOf,
+  asContent,
+  upTo,
+  ofPayload,
+  afterData,
+  afterId,
+  readEx,
+  readAs,
+  readRest,
+}
 use Rattle.item.specs.Records as records
 use Rattle.item.specs.declared.Version.{Version}
 use Rattle.item.specs.declared.Version.the-variants.{V1, V2}
