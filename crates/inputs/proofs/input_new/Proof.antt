@@ -1,6 +1,6 @@
 -- `inputs::input_new` meets its contract. Assumes nothing.
 use borrow.Author.Needs.{needs}
-use mathlib.Core.Path.{_≡_, _∙_}
+use mathlib.Core.Path.{_∙_}
 use Rattle.state.specs.State.{memory}
 use Rattle.state.proofs.Numbers.{back, bits-are}
 use Rattle.inputs.proofs.Cases.{new-negative, new-far, new-here}

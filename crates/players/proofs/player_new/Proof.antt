@@ -1,6 +1,6 @@
 -- `players::player_new` meets its contract. Assumes nothing.
 use borrow.Author.Needs.{needs}
-use mathlib.Core.Path.{_≡_, _∙_}
+use mathlib.Core.Path.{_∙_}
 use Rattle.state.specs.State.{memory, withEntries, withPlayer}
 use Rattle.state.proofs.Numbers.{back, bits-are}
 use Rattle.players.proofs.Cases.{new-negative, new-far, new-here, new-away}

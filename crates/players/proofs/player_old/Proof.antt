@@ -1,6 +1,6 @@
 -- `players::player_old` meets its contract. Assumes nothing.
 use borrow.Author.Needs.{needs}
-use mathlib.Core.Path.{_≡_, _∙_}
+use mathlib.Core.Path.{_∙_}
 use lib.ListN.{getD}
 use lib.IntN.{pos}
 use Rattle.state.specs.State.{memory}

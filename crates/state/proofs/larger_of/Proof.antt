@@ -1,7 +1,6 @@
 -- `state::larger_of` meets its contract. Assumes nothing.
 use mathlib.Core.Bool.{true, false}
 use Rattle.state.proofs.Numbers.{back, tested}
-use borrow.Author.Needs.{needs}
 use Rattle.state.proofs.larger_of.Statement.{statement}
 use Rattle.state.proofs.larger_of.Tie as tie
 
