@@ -8,9 +8,10 @@ use Rattle.fields.proofs.Answers.{and-split}
 use Rattle.item.specs.Records.{meaning, readRecord}
 use Rattle.item.specs.Contents.{recordOf}
 use Rattle.written.specs.Written.{writeContent, contentWritable, tagCount, recordWritable, recordBytes}
-use Rattle.written.specs.Laws.{WrittenReads, ReadsWritten, RecordSteady, RecordCalls}
+use Rattle.written.specs.Laws.{WrittenReads, ReadsWritten, Rewritten, RecordSteady, RecordCalls}
 use Rattle.written.proofs.Back.{tag-back}
 use Rattle.written.proofs.Calls.{call-is}
+use Rattle.written.proofs.Rewritten.{record-rewritten}
 use Rattle.written.proofs.Steady.{record-stays}
 use Rattle.written.proofs.Typed.{content-typed}
 use Rattle.written.proofs.Whole.{record-same}
@@ -27,6 +28,9 @@ written-reads v s r typed w after =
 
 pub reads-written : ReadsWritten
 reads-written = record-same
+
+pub rewritten : Rewritten
+rewritten = record-rewritten
 
 pub record-steady : RecordSteady
 record-steady v = (record-stays v, shorter isOut (readRecord v) (record-stays v))

@@ -14,7 +14,7 @@ use Rattle.fields.specs.Laws.{isOut}
 use Rattle.item.specs.Said.{gives, more}
 use Rattle.item.specs.Extensions.{payloadAt}
 use Rattle.item.specs.Records.{Content, meaning, restOf, readRecord, recordCall, recordRemarks}
-use Rattle.item.specs.Contents.{recordOf, ownPayload}
+use Rattle.item.specs.Contents.{recordOf, tidyRecord, ownPayload}
 use Rattle.item.specs.declared.Version.{Version}
 use Rattle.item.specs.declared.Kind.{Kind}
 use Rattle.item.specs.declared.Kind.the-variants as kinds
@@ -101,6 +101,12 @@ abbrev pub ReadsWritten : Type 0
 ReadsWritten =
     (v : Version) (s : List ℕ) (c : Content Part) (next : ℕ) → Bytes s → readRecord v s 0 ≡ got c next
     → recordRemarks v s 0 ≡ 0 → Same v s c next
+
+-- the same of a record of the program, as the record call hands it back
+abbrev pub Rewritten : Type 0
+Rewritten =
+    (v : Version) (s : List ℕ) (r : Record) (next : ℕ) → Bytes s → readRecord v s 0 ≡ got (recordOf r) next → tidyRecord r ≡ r
+    → recordRemarks v s 0 ≡ 0 → (recordWritable v s r ≡ true) × (recordBytes s r ≡ take next s)
 
 -- ---- bytes behind a record never matter
 
