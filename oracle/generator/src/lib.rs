@@ -3,6 +3,7 @@
 mod body;
 mod extension;
 mod integer;
+mod integer_lines;
 mod limits;
 mod long;
 mod noise;
@@ -12,6 +13,7 @@ mod record;
 mod record_lines;
 mod short;
 
+pub use integer_lines::integer_lines;
 pub use record_lines::record_lines;
 
 use play::Style;
@@ -68,6 +70,14 @@ impl Sort {
     pub fn named(name: &str) -> Option<Sort> {
         SORTS.into_iter().find(|sort| sort.name() == name)
     }
+}
+
+/// Lowercase hex digits; `-` stands for no bytes.
+fn hex(bytes: &[u8]) -> String {
+    if bytes.is_empty() {
+        return "-".to_string();
+    }
+    bytes.iter().map(|byte| format!("{byte:02x}")).collect()
 }
 
 /// The input of this sort with this index.

@@ -12,11 +12,15 @@ use crate::play::Style;
 use crate::random::Random;
 use std::sync::OnceLock;
 
+/// A prime number. The fixed list is gone through in steps of it, so that a short comparison has some of every part.
+const STRIDE: usize = 7919;
+
 /// The fixed list first; then each of its bodies again after the beginning of a match.
 pub fn input(index: u64, random: &mut Random) -> Vec<u8> {
+    let index = index as usize;
     let list = inputs();
-    let chosen = &list[index as usize % list.len()];
-    if (index as usize) < list.len() || chosen.is_empty() {
+    let chosen = &list[index % list.len() * STRIDE % list.len()];
+    if index < list.len() || chosen.is_empty() {
         return chosen.clone();
     }
     let mut continued = play::prelude(random).done();

@@ -9,6 +9,7 @@ const USAGE: &str = "usage:
   generate SORT SEED INDEX          one input: a version byte, then a body
   generate SORT SEED --size BYTES   one long input
   generate records SEED N           N lines VERSION HEX
+  generate integers SEED N          N lines HEX
 sorts: match moves inputs chat random damaged limits short long";
 
 fn main() -> ExitCode {
@@ -27,8 +28,10 @@ fn main() -> ExitCode {
 fn made(words: &[&str]) -> Option<Vec<u8>> {
     match words {
         ["records", seed, count] => {
-            let lines = generator::record_lines(seed.parse().ok()?, count.parse().ok()?);
-            Some(lines.into_iter().flat_map(|line| (line + "\n").into_bytes()).collect())
+            Some(text(generator::record_lines(seed.parse().ok()?, count.parse().ok()?)))
+        }
+        ["integers", seed, count] => {
+            Some(text(generator::integer_lines(seed.parse().ok()?, count.parse().ok()?)))
         }
         [sort, seed, "--size", size] => {
             let sort = Sort::named(sort)?;
@@ -40,4 +43,8 @@ fn made(words: &[&str]) -> Option<Vec<u8>> {
         }
         _ => None,
     }
+}
+
+fn text(lines: Vec<String>) -> Vec<u8> {
+    lines.into_iter().flat_map(|line| (line + "\n").into_bytes()).collect()
 }

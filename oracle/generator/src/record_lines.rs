@@ -3,6 +3,7 @@
 use crate::body::Body;
 use crate::extension;
 use crate::extension::EXTENSIONS;
+use crate::hex;
 use crate::integer;
 use crate::integer::TELLING;
 use crate::noise;
@@ -25,13 +26,8 @@ pub fn record_lines(seed: u64, count: usize) -> Vec<String> {
     lines
 }
 
-/// `-` stands for no bytes.
 fn line(version: i32, bytes: &[u8]) -> String {
-    if bytes.is_empty() {
-        return format!("{version} -");
-    }
-    let hex: String = bytes.iter().map(|byte| format!("{byte:02x}")).collect();
-    format!("{version} {hex}")
+    format!("{version} {}", hex(bytes))
 }
 
 /// Whole records in both versions, and the same followed by other bytes; then cuts at every length.

@@ -1,16 +1,21 @@
 //! `oracle compare N SEED REPLAY`: the replay program against libtw2 on generated inputs.
 
 use crate::expected::expected;
+use crate::expected::Expected;
 use crate::expected::Left;
 use crate::fields::hex;
 use crate::program::output;
+use crate::shrink::shrink;
 use generator::Sort;
 use std::io;
 use std::io::Write;
 use std::process::ExitCode;
 
-/// Inputs of the sort `long` take about a second each: there is one for this many of the others.
-const LONG_SHARE: u64 = 500;
+/// Inputs of the sort `long` take a second or two each: there is one for this many of each other sort.
+const LONG_SHARE: u64 = 200;
+
+/// So much output beyond the expected one is kept.
+const SURPLUS: usize = 1000;
 
 #[derive(Default)]
 struct Count {
@@ -50,7 +55,7 @@ fn compare_one(
 ) -> io::Result<()> {
     let input = generator::input(sort, seed, index);
     let wanted = expected(&input);
-    let printed = output(program, &input)?;
+    let printed = printed(program, &input, &wanted)?;
     total.inputs += 1;
     total.client += u64::from(wanted.left == Some(Left::Client));
     total.too_long += u64::from(wanted.left == Some(Left::TooLong));
@@ -59,43 +64,33 @@ fn compare_one(
     }
     total.differences += 1;
     if total.differences == 1 {
-        println!("first difference: {} {seed} {index}", sort.name());
-        let small = shrink(program, input)?;
-        report(program, &small)?;
+        println!("first difference: generate {} {seed} {index}", sort.name());
+        report(program, &input)?;
+        println!("made shorter:");
+        let shorter = shrink(input, |candidate| differs(program, candidate))?;
+        report(program, &shorter)?;
     }
     Ok(())
 }
 
-fn differs(program: &str, input: &[u8]) -> io::Result<bool> {
-    Ok(output(program, input)? != expected(input).text)
+/// The program's output, as far as it can matter.
+fn printed(program: &str, input: &[u8], wanted: &Expected) -> io::Result<String> {
+    output(program, input, wanted.text.len() + SURPLUS)
 }
 
-/// Removes stretches of bytes, long ones first, as long as the two still differ.
-fn shrink(program: &str, mut input: Vec<u8>) -> io::Result<Vec<u8>> {
-    let mut stretch = input.len() / 2;
-    while stretch > 0 {
-        let mut at = 0;
-        while at + stretch <= input.len() {
-            let mut shorter = input.clone();
-            shorter.drain(at..at + stretch);
-            if differs(program, &shorter)? {
-                input = shorter;
-            } else {
-                at += stretch;
-            }
-        }
-        stretch /= 2;
-    }
-    Ok(input)
+fn differs(program: &str, input: &[u8]) -> io::Result<bool> {
+    let wanted = expected(input);
+    Ok(printed(program, input, &wanted)? != wanted.text)
 }
 
 fn report(program: &str, input: &[u8]) -> io::Result<()> {
+    let wanted = expected(input);
     let mut out = io::stdout().lock();
-    writeln!(out, "input, made shorter: {}", hex(input))?;
+    writeln!(out, "input: {}", hex(input))?;
     writeln!(out, "libtw2, with refused 10 and too long put in:")?;
-    write!(out, "{}", expected(input).text)?;
+    write!(out, "{}", wanted.text)?;
     writeln!(out, "the program:")?;
-    write!(out, "{}", output(program, input)?)
+    writeln!(out, "{}", printed(program, input, &wanted)?)
 }
 
 fn summary(seed: u64, parts: &[String], total: &Count) -> String {

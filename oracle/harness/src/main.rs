@@ -4,18 +4,23 @@ mod bench;
 mod compare;
 mod expected;
 mod fields;
+mod integers;
 mod program;
 mod records;
 mod replay;
 mod run;
+mod shrink;
 mod text;
 
 use std::io;
+use std::io::Read;
 use std::process::ExitCode;
 
 const USAGE: &str = "usage:
   oracle replay [--used] [--board] [--fields]  < INPUT
+  oracle expected                              < INPUT
   oracle records                               < LINES
+  oracle integers                              < LINES
   oracle bench FILE ROUNDS
   oracle compare N SEED REPLAY";
 
@@ -34,7 +39,9 @@ fn main() -> ExitCode {
 fn command(words: &[&str]) -> io::Result<ExitCode> {
     match words {
         ["replay", options @ ..] => replay::command(&replay::Options::parse(options)?)?,
+        ["expected"] => print!("{}", expected::expected(&input()?).text),
         ["records"] => records::command()?,
+        ["integers"] => integers::command()?,
         ["bench", file, rounds] => bench::command(file, number(rounds)?)?,
         ["compare", count, seed, program] => {
             return compare::command(number(count)?, number(seed)?, program);
@@ -42,6 +49,13 @@ fn command(words: &[&str]) -> io::Result<ExitCode> {
         _ => return Err(invalid(USAGE)),
     }
     Ok(ExitCode::SUCCESS)
+}
+
+/// All of the standard input.
+pub fn input() -> io::Result<Vec<u8>> {
+    let mut bytes = Vec::new();
+    io::stdin().read_to_end(&mut bytes)?;
+    Ok(bytes)
 }
 
 fn number(word: &str) -> io::Result<u64> {

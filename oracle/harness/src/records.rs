@@ -34,7 +34,7 @@ fn parse(line: &str) -> Option<(Version, Vec<u8>)> {
 }
 
 /// The bytes of a row of hex digits; `-` stands for none.
-fn bytes(hex: &str) -> Option<Vec<u8>> {
+pub fn bytes(hex: &str) -> Option<Vec<u8>> {
     if hex == "-" {
         return Some(Vec::new());
     }

@@ -1,6 +1,7 @@
 //! `oracle replay`: what the replay program prints, by libtw2.
 
 use crate::fields::fields;
+use crate::input;
 use crate::invalid;
 use crate::run::Answer;
 use crate::run::Pace;
@@ -10,7 +11,6 @@ use libtw2_teehistorian::raw::Item;
 use libtw2_teehistorian::raw::Reader;
 use std::collections::BTreeSet;
 use std::io;
-use std::io::Read;
 use std::io::Write;
 
 /// Up to this client the board is asked for each one; above it only for those named by an event.
@@ -39,8 +39,7 @@ impl Options {
 }
 
 pub fn command(options: &Options) -> io::Result<()> {
-    let mut input = Vec::new();
-    io::stdin().read_to_end(&mut input)?;
+    let input = input()?;
     let mut out = io::BufWriter::new(io::stdout().lock());
     match start(&input, options) {
         Some(run) => replay(run, options, &mut out)?,

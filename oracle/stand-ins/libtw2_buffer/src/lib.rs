@@ -88,7 +88,7 @@ impl<'d> Drop for VecBuffer<'d> {
     }
 }
 
-/// Only named by the writing side of the packer, which is not used here.
+/// Only named by the packer, for writing into a packer from outside, which is not used here.
 pub struct BufferRefBuffer<'r, 'd, 's> {
     _buffer: &'r mut BufferRef<'d, 's>,
 }
