@@ -27,7 +27,10 @@ pub const EXTENSIONS: [Extension; 20] = [
     extension(0x60daba5c52c43aebb8bab2953fb55a17, &[Client, Number, Text]),
     extension(0x37ecd3b892183bb9a71ba935b86f6a81, &[Client, Number, Text]),
     extension(0xd4f5abe8edd23fb9abd81c8bb84f4a63, &[Client]),
-    extension(0x1397b63eee4e3919b86ab058887fcaf5, &[Client, Identifier, Number, Text]),
+    extension(
+        0x1397b63eee4e3919b86ab058887fcaf5,
+        &[Client, Identifier, Number, Text],
+    ),
     extension(0x41b49541f26f325d87159baf4b544ef9, &[Client, Number]),
     extension(0x1899a38271e336da937dc9de6bb95b1d, &[Client]),
     extension(0x59239b050540318dbea49aa1e80e7d2b, &[Client]),
@@ -39,10 +42,16 @@ pub const EXTENSIONS: [Extension; 20] = [
     extension(0xa111c04e1ea838e090b1d7f993ca0da9, &[Client, Number]),
     extension(0x9588b9af3fdc3760804382deeee317a5, &[Number, Number]),
     extension(0xef8905a2c6953591a1cd53d2015992dd, &[Number]),
-    extension(0xe05408d3a31333df9eb3ddb990ab954a, &[Number, Identifier, Text]),
+    extension(
+        0xe05408d3a31333df9eb3ddb990ab954a,
+        &[Number, Identifier, Text],
+    ),
     extension(0x5792834e81d134c9a29bb5ff25dac3bc, &[Number, Number]),
     extension(0xb29901d512443bd0bbde23d04b1f7ba9, &[Number]),
-    extension(0x4560c756da29303681d490a50f0182cd, &[Number, Identifier, Text]),
+    extension(
+        0x4560c756da29303681d490a50f0182cd,
+        &[Number, Identifier, Text],
+    ),
 ];
 
 const fn extension(identifier: u128, fields: &'static [Field]) -> Extension {
@@ -58,7 +67,9 @@ impl Extension {
         let fields = self.fields.iter();
         let odd = random.pick(&[0, 0, 0, 3]);
         let empty = Body::bare().with_odd_forms(odd, random);
-        fields.fold(empty, |body, field| field.add(body, client, random)).done()
+        fields
+            .fold(empty, |body, field| field.add(body, client, random))
+            .done()
     }
 }
 

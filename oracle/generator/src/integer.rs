@@ -1,9 +1,11 @@
 //! The byte forms of an integer: the plain one, and every other that reads as the same number.
 
 /// Numbers at which the form changes its length or its meaning.
+#[rustfmt::skip]
 pub const TELLING: [i32; 34] = [
-    0, 1, -1, 2, -2, 10, -11, -12, 63, -63, 64, -64, 65, -65, 127, 128, 255, 8191, -8191, 8192, -8192, 8193, -8193,
-    1048575, 1048576, -1048576, -1048577, 134217727, 134217728, -134217728, -134217729, 2147483646, i32::MAX, i32::MIN,
+    0, 1, -1, 2, -2, 10, -11, -12, 63, -63, 64, -64, 65, -65, 127, 128, 255,
+    8191, -8191, 8192, -8192, 8193, -8193, 1048575, 1048576, -1048576, -1048577,
+    134217727, 134217728, -134217728, -134217729, 2147483646, i32::MAX, i32::MIN,
 ];
 
 /// How many digit bits a form of this many bytes has.
@@ -13,7 +15,12 @@ const DIGIT_BITS: [u32; 5] = [6, 13, 20, 27, 32];
 pub fn plain(value: i32) -> Vec<u8> {
     let negative = value < 0;
     let length = (1..=5).find(|length| fits(value, negative, *length));
-    form(value, negative, length.expect("five bytes hold every number"), 0)
+    form(
+        value,
+        negative,
+        length.expect("five bytes hold every number"),
+        0,
+    )
 }
 
 /// Every form: both sign bits, each length, and the bits of a fifth byte that do not count.
@@ -21,8 +28,16 @@ pub fn forms(value: i32) -> Vec<Vec<u8>> {
     let mut all = Vec::new();
     for negative in [false, true] {
         for length in (1..=5).filter(|length| fits(value, negative, *length)) {
-            let spare: &[u8] = if length == 5 { &[0, 0x20, 0x40, 0x60, 0x80, 0xe0] } else { &[0] };
-            all.extend(spare.iter().map(|bits| form(value, negative, length, *bits)));
+            let spare: &[u8] = if length == 5 {
+                &[0, 0x20, 0x40, 0x60, 0x80, 0xe0]
+            } else {
+                &[0]
+            };
+            all.extend(
+                spare
+                    .iter()
+                    .map(|bits| form(value, negative, length, *bits)),
+            );
         }
     }
     all

@@ -18,7 +18,8 @@ pub fn integer_lines(seed: u64, count: usize) -> Vec<String> {
     lines
 }
 
-/// Each single byte, each last byte after several beginnings, and every form of the telling numbers, cut at every length.
+/// Each single byte, each last byte after several beginnings, and every form of the telling numbers,
+/// whole and cut at every length.
 fn fixed() -> Vec<String> {
     let mut list: Vec<Vec<u8>> = (0..=255).map(|byte| vec![byte]).collect();
     for last in 0..=255 {
@@ -32,12 +33,19 @@ fn fixed() -> Vec<String> {
         list.push([form, vec![0x40]].concat());
     }
     let mut seen = HashSet::new();
-    list.into_iter().map(|bytes| hex(&bytes)).filter(|line| seen.insert(line.clone())).collect()
+    list.into_iter()
+        .map(|bytes| hex(&bytes))
+        .filter(|line| seen.insert(line.clone()))
+        .collect()
 }
 
 fn random_bytes(random: &mut Random) -> Vec<u8> {
     let length = random.below(7);
-    let mut bytes = if random.one_in(2) { random.bytes(length) } else { noise::telling(length, random) };
+    let mut bytes = if random.one_in(2) {
+        random.bytes(length)
+    } else {
+        noise::telling(length, random)
+    };
     if random.one_in(2) {
         bytes.iter_mut().take(4).for_each(|byte| *byte |= 0x80);
     }

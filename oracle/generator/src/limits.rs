@@ -36,7 +36,13 @@ pub fn sized(size: usize, random: &mut Random) -> Vec<u8> {
 fn inputs() -> &'static [Vec<u8>] {
     static LIST: OnceLock<Vec<Vec<u8>>> = OnceLock::new();
     LIST.get_or_init(|| {
-        let mut list = vec![Vec::new(), vec![0], vec![3, 0x40], vec![0x80, 1], vec![0xff]];
+        let mut list = vec![
+            Vec::new(),
+            vec![0],
+            vec![3, 0x40],
+            vec![0x80, 1],
+            vec![0xff],
+        ];
         for version in [1, 2] {
             list.extend(ticks::inputs(version));
             list.extend(clients::inputs(version));

@@ -68,10 +68,16 @@ fn record(case: usize, filling: usize) -> Vec<u8> {
         3 => body.ints(&[MESSAGE, 0, -1]).raw(&text),
         4 => body.message(0, &text),
         5 => body.ints(&[MESSAGE, 0, filling as i32 + 1]).raw(&text),
-        6 => body.extension(&EXTENSIONS[1].identifier, &[0, 0, 0x78]).raw(&text),
+        6 => body
+            .extension(&EXTENSIONS[1].identifier, &[0, 0, 0x78])
+            .raw(&text),
         7 => body.int(EXTENSION).raw(&[7; 16]).data(&text),
         8 => body.ints(&[COMMAND, 0, 0]).string(&text).int(-1),
-        _ => body.ints(&[COMMAND, 0, 0]).string(&text).int(17).raw(&[0; 17]),
+        _ => body
+            .ints(&[COMMAND, 0, 0])
+            .string(&text)
+            .int(17)
+            .raw(&[0; 17]),
     };
     record.done()
 }

@@ -27,24 +27,37 @@ fn main() -> ExitCode {
 
 fn made(words: &[&str]) -> Option<Vec<u8>> {
     match words {
-        ["records", seed, count] => {
-            Some(text(generator::record_lines(seed.parse().ok()?, count.parse().ok()?)))
-        }
-        ["integers", seed, count] => {
-            Some(text(generator::integer_lines(seed.parse().ok()?, count.parse().ok()?)))
-        }
+        ["records", seed, count] => Some(text(generator::record_lines(
+            seed.parse().ok()?,
+            count.parse().ok()?,
+        ))),
+        ["integers", seed, count] => Some(text(generator::integer_lines(
+            seed.parse().ok()?,
+            count.parse().ok()?,
+        ))),
         [sort, seed, "--size", size] => {
             let sort = Sort::named(sort)?;
-            Some(generator::sized(sort, seed.parse().ok()?, size.parse().ok()?))
+            Some(generator::sized(
+                sort,
+                seed.parse().ok()?,
+                size.parse().ok()?,
+            ))
         }
         [sort, seed, index] => {
             let sort = Sort::named(sort)?;
-            Some(generator::input(sort, seed.parse().ok()?, index.parse().ok()?))
+            Some(generator::input(
+                sort,
+                seed.parse().ok()?,
+                index.parse().ok()?,
+            ))
         }
         _ => None,
     }
 }
 
 fn text(lines: Vec<String>) -> Vec<u8> {
-    lines.into_iter().flat_map(|line| (line + "\n").into_bytes()).collect()
+    lines
+        .into_iter()
+        .flat_map(|line| (line + "\n").into_bytes())
+        .collect()
 }

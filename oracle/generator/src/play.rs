@@ -33,7 +33,14 @@ impl Style {
             Style::Inputs => (4, 200, 3, 1, 0, 20),
             Style::Chat => (10, 60, 2, 0, 2, 4),
         };
-        Habits { join, leave, rest, input, talk, skip }
+        Habits {
+            join,
+            leave,
+            rest,
+            input,
+            talk,
+            skip,
+        }
     }
 }
 
@@ -127,7 +134,9 @@ impl Play {
     }
     /// What each player does in the tick, in the order of the clients.
     fn steps(&self, random: &mut Random) -> Vec<(usize, Step)> {
-        (0..self.clients).filter_map(|client| Some((client, self.step(client, random)?))).collect()
+        (0..self.clients)
+            .filter_map(|client| Some((client, self.step(client, random)?)))
+            .collect()
     }
     fn step(&self, client: usize, random: &mut Random) -> Option<Step> {
         match self.present[client] {
@@ -145,7 +154,11 @@ impl Play {
             _ => false,
         };
         if !implied || random.one_in(self.habits.skip) {
-            let dt = if random.one_in(8) { random.between(0, 500) } else { random.between(0, 2) };
+            let dt = if random.one_in(8) {
+                random.between(0, 500)
+            } else {
+                random.between(0, 2)
+            };
             self.change(|body| body.skip(dt));
         }
     }
@@ -220,7 +233,11 @@ fn difference(random: &mut Random) -> i32 {
 
 /// A record that is handed on as it stands.
 pub fn talk(body: Body, client: i32, extensions: bool, random: &mut Random) -> Body {
-    let length = if random.one_in(20) { random.below(300) } else { random.below(30) };
+    let length = if random.one_in(20) {
+        random.below(300)
+    } else {
+        random.below(30)
+    };
     match random.below(if extensions { 9 } else { 4 }) {
         0 => body.message(client, &random.bytes(length)),
         1 => body.join(client),

@@ -34,17 +34,34 @@ fn line(version: i32, bytes: &[u8]) -> String {
 fn fixed() -> Vec<String> {
     let plain = [plain(), commands(), lengths()].concat();
     let extensions = extensions();
-    let whole = [plain.clone(), extensions.clone(), cut_payloads(), integers()].concat();
-    let followed = whole.iter().map(|record| [record.clone(), vec![0x40, 0x00]].concat());
-    let both = whole.iter().cloned().chain(followed).flat_map(|bytes| [line(1, &bytes), line(2, &bytes)]);
+    let whole = [
+        plain.clone(),
+        extensions.clone(),
+        cut_payloads(),
+        integers(),
+    ]
+    .concat();
+    let followed = whole
+        .iter()
+        .map(|record| [record.clone(), vec![0x40, 0x00]].concat());
+    let both = whole
+        .iter()
+        .cloned()
+        .chain(followed)
+        .flat_map(|bytes| [line(1, &bytes), line(2, &bytes)]);
     let plain_cuts = cuts(&plain).map(|bytes| line(1, &bytes));
     let extension_cuts = cuts(&extensions).map(|bytes| line(2, &bytes));
     let mut seen = HashSet::new();
-    both.chain(plain_cuts).chain(extension_cuts).filter(|line| seen.insert(line.clone())).collect()
+    both.chain(plain_cuts)
+        .chain(extension_cuts)
+        .filter(|line| seen.insert(line.clone()))
+        .collect()
 }
 
 fn cuts(records: &[Vec<u8>]) -> impl Iterator<Item = Vec<u8>> + '_ {
-    records.iter().flat_map(|record| (0..record.len()).map(|end| record[..end].to_vec()))
+    records
+        .iter()
+        .flat_map(|record| (0..record.len()).map(|end| record[..end].to_vec()))
 }
 
 fn done(bodies: Vec<Body>) -> Vec<Vec<u8>> {
@@ -85,7 +102,17 @@ fn plain() -> Vec<Vec<u8>> {
 
 fn commands() -> Vec<Vec<u8>> {
     let mut list = Vec::new();
-    for (count, given) in [(0, 0), (1, 1), (2, 2), (15, 15), (16, 16), (17, 16), (17, 17), (18, 17), (18, 18)] {
+    for (count, given) in [
+        (0, 0),
+        (1, 1),
+        (2, 2),
+        (15, 15),
+        (16, 16),
+        (17, 16),
+        (17, 17),
+        (18, 17),
+        (18, 18),
+    ] {
         list.push((count, given, 7));
     }
     for count in [-1, i32::MIN, i32::MAX, 100] {
@@ -94,19 +121,30 @@ fn commands() -> Vec<Vec<u8>> {
     for flags in [0, -2, i32::MIN, i32::MAX] {
         list.push((1, 1, flags));
     }
-    list.into_iter().map(|(count, given, flags)| command(count, given, flags)).collect()
+    list.into_iter()
+        .map(|(count, given, flags)| command(count, given, flags))
+        .collect()
 }
 
 fn command(count: i32, given: usize, flags: i32) -> Vec<u8> {
     let arguments: Vec<Vec<u8>> = (0..given).map(|at| vec![0x61; at % 3]).collect();
-    let command = Command { client: 3, flags, name: b"tune", count, arguments: &arguments };
+    let command = Command {
+        client: 3,
+        flags,
+        name: b"tune",
+        count,
+        arguments: &arguments,
+    };
     Body::bare().command(&command).done()
 }
 
 /// Two unknown extensions and each known one.
 fn extensions() -> Vec<Vec<u8>> {
     let mut random = Random::new(&[22]);
-    let mut list = vec![Body::bare().extension(&[0xab; 16], b""), Body::bare().extension(&[0; 16], b"data")];
+    let mut list = vec![
+        Body::bare().extension(&[0xab; 16], b""),
+        Body::bare().extension(&[0; 16], b"data"),
+    ];
     for extension in &EXTENSIONS {
         let payload = extension.payload(5, &mut random);
         list.push(Body::bare().extension(&extension.identifier, &payload));

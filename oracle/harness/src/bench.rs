@@ -1,7 +1,6 @@
 //! `oracle bench FILE ROUNDS`: the speed of libtw2's reader on one input, from memory.
 
 use crate::invalid;
-use crate::run::Answer;
 use crate::run::Pace;
 use crate::run::Run;
 use std::hint::black_box;
@@ -11,13 +10,14 @@ use std::time::Instant;
 
 struct Round {
     events: u64,
-    end: String,
     time: Duration,
 }
 
 pub fn command(file: &str, rounds: u64) -> io::Result<()> {
     let input = std::fs::read(file)?;
-    let (version, body) = input.split_first().ok_or_else(|| invalid("the file is empty"))?;
+    let (version, body) = input
+        .split_first()
+        .ok_or_else(|| invalid("the file is empty"))?;
     let best = (0..rounds.max(1))
         .map(|_| round(*version, body))
         .collect::<io::Result<Vec<Round>>>()?
@@ -33,20 +33,12 @@ fn round(version: u8, body: &[u8]) -> io::Result<Round> {
     let mut run = Run::new(version, body, Pace::Whole)
         .ok_or_else(|| invalid("the file begins with neither 01 nor 02"))?;
     let mut events = 0;
-    let end = loop {
-        match run.call() {
-            Answer::Event(event) => {
-                black_box(&event);
-                events += 1;
-            }
-            Answer::Finish => break "finish".to_string(),
-            Answer::Refused(number) => break format!("refused {number}"),
-            Answer::Stopped => unreachable!("this pace has no limit"),
-        }
-    };
+    while let Some(event) = run.read().map_err(|_| invalid("the body is refused"))? {
+        black_box(&event);
+        events += 1;
+    }
     Ok(Round {
         events,
-        end,
         time: begin.elapsed(),
     })
 }
@@ -56,7 +48,7 @@ fn report(round: &Round, bytes: usize) {
     let each = nanoseconds / round.events.max(1) as f64;
     let speed = bytes as f64 * 1000.0 / nanoseconds;
     println!(
-        "events {} bytes {bytes} ns/event {each:.2} MB/s {speed:.1} end {}",
-        round.events, round.end
+        "events {} bytes {bytes} ns/event {each:.2} MB/s {speed:.1}",
+        round.events
     );
 }

@@ -25,7 +25,11 @@ pub struct Expected {
 
 pub fn expected(input: &[u8]) -> Expected {
     let run = input.split_first().and_then(|(version, body)| {
-        let pace = if body.len() < WINDOW { Pace::Whole } else { Pace::AtMost(WINDOW) };
+        let pace = if body.len() < WINDOW {
+            Pace::Whole
+        } else {
+            Pace::AtMost(WINDOW)
+        };
         Run::new(*version, body, pace)
     });
     match run {

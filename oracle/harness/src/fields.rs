@@ -29,8 +29,14 @@ pub fn fields(record: &Item) -> String {
 fn extension_fields(record: &Item) -> Line {
     match record {
         Item::Antibot(i) => Line::of("Antibot").bytes(i.data),
-        Item::AuthInit(i) => Line::of("AuthInit").add(i.cid).add(i.level).bytes(i.identity),
-        Item::AuthLogin(i) => Line::of("AuthLogin").add(i.cid).add(i.level).bytes(i.identity),
+        Item::AuthInit(i) => Line::of("AuthInit")
+            .add(i.cid)
+            .add(i.level)
+            .bytes(i.identity),
+        Item::AuthLogin(i) => Line::of("AuthLogin")
+            .add(i.cid)
+            .add(i.level)
+            .bytes(i.identity),
         Item::AuthLogout(i) => Line::of("AuthLogout").add(i.cid),
         Item::Ddnetver(i) => Line::of("Ddnetver")
             .add(i.cid)
@@ -54,14 +60,16 @@ fn team_fields(record: &Item) -> Line {
     match record {
         Item::TeamFinish(i) => Line::of("TeamFinish").add(i.team).add(i.time_ticks),
         Item::TeamLoadFailure(i) => Line::of("TeamLoadFailure").add(i.team),
-        Item::TeamLoadSuccess(i) => {
-            Line::of("TeamLoadSuccess").add(i.team).uuid(&i.save_uuid).bytes(i.save)
-        }
+        Item::TeamLoadSuccess(i) => Line::of("TeamLoadSuccess")
+            .add(i.team)
+            .uuid(&i.save_uuid)
+            .bytes(i.save),
         Item::TeamPractice(i) => Line::of("TeamPractice").add(i.team).add(i.practice),
         Item::TeamSaveFailure(i) => Line::of("TeamSaveFailure").add(i.team),
-        Item::TeamSaveSuccess(i) => {
-            Line::of("TeamSaveSuccess").add(i.team).uuid(&i.save_uuid).bytes(i.save)
-        }
+        Item::TeamSaveSuccess(i) => Line::of("TeamSaveSuccess")
+            .add(i.team)
+            .uuid(&i.save_uuid)
+            .bytes(i.save),
         Item::UnknownEx(i) => Line::of("UnknownEx").uuid(&i.uuid).bytes(i.data),
         _ => unreachable!("the other records have been shown"),
     }

@@ -51,6 +51,7 @@ impl Warn<Warning> for Remark {
 
 fn written(number: i32) -> Vec<u8> {
     let mut target = Vec::with_capacity(LONGEST);
-    with_packer(&mut target, |mut packer| packer.write_int(number)).expect("there is room for an integer");
+    with_packer(&mut target, |mut packer| packer.write_int(number))
+        .expect("there is room for an integer");
     target
 }

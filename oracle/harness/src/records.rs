@@ -1,4 +1,5 @@
-//! `oracle records`: each line of the input is a version and bytes in hex; the answer is the record that they begin with.
+//! `oracle records`: each line of the input is a version and bytes in hex; the answer is the record at
+//! their beginning.
 
 use crate::fields::fields;
 use crate::invalid;
@@ -42,7 +43,9 @@ pub fn bytes(hex: &str) -> Option<Vec<u8>> {
         return None;
     }
     let pairs = (0..hex.len()).step_by(2);
-    pairs.map(|at| u8::from_str_radix(&hex[at..at + 2], 16).ok()).collect()
+    pairs
+        .map(|at| u8::from_str_radix(&hex[at..at + 2], 16).ok())
+        .collect()
 }
 
 fn answer(version: Version, bytes: &[u8]) -> String {

@@ -50,7 +50,11 @@ pub fn command(options: &Options) -> io::Result<()> {
 
 fn start<'b>(input: &'b [u8], options: &Options) -> Option<Run<'b>> {
     let (version, body) = input.split_first()?;
-    let pace = if options.used { Pace::Single } else { Pace::Whole };
+    let pace = if options.used {
+        Pace::Single
+    } else {
+        Pace::Whole
+    };
     Run::new(*version, body, pace)
 }
 
@@ -92,7 +96,9 @@ fn printed(answer: Answer, options: &Options) -> Printed {
     match answer {
         Answer::Event(event) => Printed {
             line: text::event(&event),
-            fields: text::record(&event).filter(|_| options.fields).map(|r| fields(&r)),
+            fields: text::record(&event)
+                .filter(|_| options.fields)
+                .map(|r| fields(&r)),
             client: entry(&event),
             used: true,
             last: false,

@@ -46,9 +46,13 @@ impl<'b> Run<'b> {
             },
         })
     }
-    pub fn call(&mut self) -> Answer<'_> {
+    /// libtw2's own call.
+    pub fn read(&mut self) -> Result<Option<raw::Item<'_>>, raw::Error<Stop>> {
         self.source.requests = 0;
-        match self.reader.read(&mut self.source, &mut self.buffer) {
+        self.reader.read(&mut self.source, &mut self.buffer)
+    }
+    pub fn call(&mut self) -> Answer<'_> {
+        match self.read() {
             Ok(Some(item)) => Answer::Event(item),
             Ok(None) => Answer::Finish,
             Err(raw::Error::Teehistorian(error)) => Answer::Refused(refusal(&error)),

@@ -20,7 +20,11 @@ pub fn shrink(
         let mut stretch = before / 2;
         while stretch > 0 {
             input = without_stretches(input, stretch, deadline, &mut holds)?;
-            stretch = if input.len() <= SMALL { stretch - 1 } else { stretch / 2 };
+            stretch = if input.len() <= SMALL {
+                stretch - 1
+            } else {
+                stretch / 2
+            };
         }
         if input.len() == before || Instant::now() > deadline {
             return Ok(input);

@@ -3,9 +3,10 @@
 use crate::body::Body;
 use crate::record::Command;
 
+#[rustfmt::skip]
 const CLIENTS: [i32; 24] = [
-    i32::MIN, -2147483647, -129, -128, -65, -64, -5, -1, 0, 1, 62, 63, 64, 65, 126, 127, 128, 129, 255, 256, 1024, 65536,
-    2147483646, i32::MAX,
+    i32::MIN, -2147483647, -129, -128, -65, -64, -5, -1, 0, 1, 62, 63, 64, 65,
+    126, 127, 128, 129, 255, 256, 1024, 65536, 2147483646, i32::MAX,
 ];
 
 const TEN: [i32; 10] = [1, 2, 3, -4, 5, 6, -7, 8, 9, 10];
@@ -23,10 +24,22 @@ pub fn inputs(version: u8) -> Vec<Vec<u8>> {
 
 /// Each record once, outside a tick and inside one.
 fn records(version: u8, client: i32) -> Vec<Body> {
-    let command = Command { client, flags: -1, name: b"say", count: 1, arguments: &[b"hi".to_vec()] };
+    let command = Command {
+        client,
+        flags: -1,
+        name: b"say",
+        count: 1,
+        arguments: &[b"hi".to_vec()],
+    };
     let mut list = Vec::new();
     for inside in [false, true] {
-        let new = || if inside { Body::new(version).join(2) } else { Body::new(version) };
+        let new = || {
+            if inside {
+                Body::new(version).join(2)
+            } else {
+                Body::new(version)
+            }
+        };
         list.extend([
             new().player_new(client, 3, 4).finish(),
             new().player_new(client, 3, 4).player_new(0, 1, 1).finish(),
@@ -48,10 +61,29 @@ fn changes(version: u8, client: i32) -> Vec<Body> {
     let below = (client - 1).max(0);
     vec![
         new().player_diff(client, 1, 1).finish(),
-        new().player_new(client, 3, 4).player_diff(client, -5, 6).player_old(client).finish(),
-        new().player_new(client, 3, 4).player_old(client).player_new(client, 7, 8).finish(),
-        new().player_new(below, 3, 4).player_new(client, 7, 8).player_diff(below, 1, 1).finish(),
-        new().input_new(client, &TEN).input_diff(client, &TEN).input_new(client, &[0; 10]).finish(),
-        new().player_new(client, 0, 0).player_new(client, 5, 6).finish(),
+        new()
+            .player_new(client, 3, 4)
+            .player_diff(client, -5, 6)
+            .player_old(client)
+            .finish(),
+        new()
+            .player_new(client, 3, 4)
+            .player_old(client)
+            .player_new(client, 7, 8)
+            .finish(),
+        new()
+            .player_new(below, 3, 4)
+            .player_new(client, 7, 8)
+            .player_diff(below, 1, 1)
+            .finish(),
+        new()
+            .input_new(client, &TEN)
+            .input_diff(client, &TEN)
+            .input_new(client, &[0; 10])
+            .finish(),
+        new()
+            .player_new(client, 0, 0)
+            .player_new(client, 5, 6)
+            .finish(),
     ]
 }

@@ -25,13 +25,29 @@ fn payloads(new: impl Fn() -> Body, extension: &Extension) -> Vec<Body> {
     let mut list = Vec::new();
     for client in CLIENTS {
         let payload = extension.payload(client, &mut random);
-        list.push(new().extension(&extension.identifier, &payload).join(1).finish());
+        list.push(
+            new()
+                .extension(&extension.identifier, &payload)
+                .join(1)
+                .finish(),
+        );
         let spare = [payload, vec![0x40, 0x00, 0x40]].concat();
-        list.push(new().join(0).extension(&extension.identifier, &spare).join(1).finish());
+        list.push(
+            new()
+                .join(0)
+                .extension(&extension.identifier, &spare)
+                .join(1)
+                .finish(),
+        );
     }
     let payload = extension.payload(9, &mut random);
     for end in 0..payload.len() {
-        list.push(new().extension(&extension.identifier, &payload[..end]).join(1).finish());
+        list.push(
+            new()
+                .extension(&extension.identifier, &payload[..end])
+                .join(1)
+                .finish(),
+        );
     }
     list
 }
@@ -58,9 +74,21 @@ fn unknown(new: impl Fn() -> Body) -> Vec<Body> {
         new().extension(&[0; 16], b"").finish(),
         new().extension(&[0xff; 16], b"abc").finish(),
         new().join(0).extension(&[1; 16], &[0x40; 100]).finish(),
-        new().extension(&[2; 16], b"a").extension(&[2; 16], b"b").finish(),
-        new().skip(2).extension(&[2; 16], b"a").skip(2).extension(&[2; 16], b"b").finish(),
-        new().player_new(0, 0, 0).extension(&[2; 16], b"a").player_diff(0, 1, 1).finish(),
+        new()
+            .extension(&[2; 16], b"a")
+            .extension(&[2; 16], b"b")
+            .finish(),
+        new()
+            .skip(2)
+            .extension(&[2; 16], b"a")
+            .skip(2)
+            .extension(&[2; 16], b"b")
+            .finish(),
+        new()
+            .player_new(0, 0, 0)
+            .extension(&[2; 16], b"a")
+            .player_diff(0, 1, 1)
+            .finish(),
     ]
 }
 

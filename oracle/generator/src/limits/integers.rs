@@ -14,7 +14,14 @@ fn fields(new: impl Fn() -> Body) -> Vec<Body> {
     let mut list = Vec::new();
     for value in TELLING {
         for form in integer::forms(value) {
-            list.push(new().player_new(0, 0, 0).int(0).raw(&form).raw(&form).finish());
+            list.push(
+                new()
+                    .player_new(0, 0, 0)
+                    .int(0)
+                    .raw(&form)
+                    .raw(&form)
+                    .finish(),
+            );
         }
     }
     list
@@ -37,7 +44,12 @@ fn kinds(new: impl Fn() -> Body) -> Vec<Body> {
 
 fn cuts(new: impl Fn() -> Body) -> Vec<Body> {
     let mut list = Vec::new();
-    for form in [[0x80; 5], [0xbf, 0xff, 0xff, 0xff, 0x0f], [0xff, 0xff, 0xff, 0xff, 0xff], [0xc0, 0x80, 0x80, 0x80, 0x10]] {
+    for form in [
+        [0x80; 5],
+        [0xbf, 0xff, 0xff, 0xff, 0x0f],
+        [0xff, 0xff, 0xff, 0xff, 0xff],
+        [0xc0, 0x80, 0x80, 0x80, 0x10],
+    ] {
         for end in 1..=5 {
             list.push(new().raw(&form[..end]));
             list.push(new().player_new(0, 0, 0).int(0).raw(&form[..end]));

@@ -41,8 +41,17 @@ fn data(new: impl Fn() -> Body) -> Vec<Body> {
         list.push(new().ints(&[MESSAGE, 0, length]).raw(&[0x40; 8]));
         list.push(new().join(1).ints(&[MESSAGE, 0, length]));
     }
-    for form in integer::forms(2).into_iter().chain(integer::forms(-1)).chain(integer::forms(0)) {
-        list.push(new().ints(&[MESSAGE, 0]).raw(&form).raw(&[0x40, 0x41, 0x40]));
+    for form in integer::forms(2)
+        .into_iter()
+        .chain(integer::forms(-1))
+        .chain(integer::forms(0))
+    {
+        list.push(
+            new()
+                .ints(&[MESSAGE, 0])
+                .raw(&form)
+                .raw(&[0x40, 0x41, 0x40]),
+        );
     }
     list
 }
@@ -56,10 +65,27 @@ fn arguments(new: impl Fn() -> Body) -> Vec<Body> {
         }
     }
     for form in integer::forms(1) {
-        list.push(new().ints(&[-10, 0, 0]).string(b"x").raw(&form).string(b"y").finish());
+        list.push(
+            new()
+                .ints(&[-10, 0, 0])
+                .string(b"x")
+                .raw(&form)
+                .string(b"y")
+                .finish(),
+        );
     }
     for flags in [0, 1, -1, i32::MIN, i32::MAX] {
-        list.push(new().command(&Command { client: 1, flags, name: b"", count: 0, arguments: &[] }).finish());
+        list.push(
+            new()
+                .command(&Command {
+                    client: 1,
+                    flags,
+                    name: b"",
+                    count: 0,
+                    arguments: &[],
+                })
+                .finish(),
+        );
     }
     list.push(command(new(), 17, 16, 1).raw(&[0x61]));
     list.push(new().ints(&[-10, 0]));
@@ -70,5 +96,11 @@ fn arguments(new: impl Fn() -> Body) -> Vec<Body> {
 
 fn command(body: Body, count: i32, given: usize, length: usize) -> Body {
     let arguments = vec![vec![0x62; length]; given];
-    body.command(&Command { client: 4, flags: 9, name: b"vote", count, arguments: &arguments })
+    body.command(&Command {
+        client: 4,
+        flags: 9,
+        name: b"vote",
+        count,
+        arguments: &arguments,
+    })
 }

@@ -7,7 +7,12 @@ const MOST: i32 = i32::MAX;
 
 pub fn inputs(version: u8) -> Vec<Vec<u8>> {
     let new = || Body::new(version);
-    let bodies = [beginnings(new), skips(new), clients_in_a_tick(new), largest(new)];
+    let bodies = [
+        beginnings(new),
+        skips(new),
+        clients_in_a_tick(new),
+        largest(new),
+    ];
     bodies.into_iter().flatten().map(Body::done).collect()
 }
 
@@ -36,11 +41,32 @@ fn beginnings(new: impl Fn() -> Body) -> Vec<Body> {
 fn skips(new: impl Fn() -> Body) -> Vec<Body> {
     vec![
         new().skip(0).finish(),
-        new().skip(2).player_new(0, 10, 20).player_diff(0, 1, -1).finish(),
-        new().player_new(5, 0, 0).skip(0).player_new(2, 0, 0).finish(),
-        new().player_new(5, 0, 0).skip(0).player_new(5, 0, 0).finish(),
-        new().player_new(5, 0, 0).skip(0).player_new(6, 0, 0).finish(),
-        new().player_new(5, 0, 0).skip(0).skip(0).player_diff(5, 1, 1).finish(),
+        new()
+            .skip(2)
+            .player_new(0, 10, 20)
+            .player_diff(0, 1, -1)
+            .finish(),
+        new()
+            .player_new(5, 0, 0)
+            .skip(0)
+            .player_new(2, 0, 0)
+            .finish(),
+        new()
+            .player_new(5, 0, 0)
+            .skip(0)
+            .player_new(5, 0, 0)
+            .finish(),
+        new()
+            .player_new(5, 0, 0)
+            .skip(0)
+            .player_new(6, 0, 0)
+            .finish(),
+        new()
+            .player_new(5, 0, 0)
+            .skip(0)
+            .skip(0)
+            .player_diff(5, 1, 1)
+            .finish(),
         new().player_new(5, 0, 0).skip(4).skip(7).join(1).finish(),
         new().skip(1).skip(1).skip(1).finish(),
         new().skip(1).skip(1).skip(1).join(0).finish(),
@@ -62,12 +88,29 @@ fn clients_in_a_tick(new: impl Fn() -> Body) -> Vec<Body> {
         two().player_diff(7, 1, 1).finish(),
         two().player_diff(7, 1, 1).player_diff(3, 1, 1).finish(),
         two().player_old(7).player_old(3).finish(),
-        two().player_old(3).player_old(7).player_new(7, 2, 2).finish(),
-        two().join(0).input_new(0, &[0; 10]).player_diff(3, 2, 2).finish(),
-        two().join(0).input_new(9, &[0; 10]).player_new(8, 2, 2).finish(),
+        two()
+            .player_old(3)
+            .player_old(7)
+            .player_new(7, 2, 2)
+            .finish(),
+        two()
+            .join(0)
+            .input_new(0, &[0; 10])
+            .player_diff(3, 2, 2)
+            .finish(),
+        two()
+            .join(0)
+            .input_new(9, &[0; 10])
+            .player_new(8, 2, 2)
+            .finish(),
         two().player_diff(7, 0, 0).raw(&[0x03]),
         two().raw(&[0x43, 0x03]),
-        new().player_new(0, 0, 0).player_diff(0, 0, 0).player_diff(0, 0, 0).player_old(0).finish(),
+        new()
+            .player_new(0, 0, 0)
+            .player_diff(0, 0, 0)
+            .player_diff(0, 0, 0)
+            .player_old(0)
+            .finish(),
     ]
 }
 
@@ -76,8 +119,17 @@ fn largest(new: impl Fn() -> Body) -> Vec<Body> {
     vec![
         last().finish(),
         new().skip(MOST).finish(),
-        new().skip(MOST - 2).player_new(0, 0, 0).player_diff(0, 1, 1).finish(),
-        new().skip(MOST - 2).player_new(0, 0, 0).player_diff(0, 1, 1).player_diff(0, 1, 1).finish(),
+        new()
+            .skip(MOST - 2)
+            .player_new(0, 0, 0)
+            .player_diff(0, 1, 1)
+            .finish(),
+        new()
+            .skip(MOST - 2)
+            .player_new(0, 0, 0)
+            .player_diff(0, 1, 1)
+            .player_diff(0, 1, 1)
+            .finish(),
         last().join(1).finish(),
         last().player_new(0, 0, 0).finish(),
         last().player_new(0, 0, 0).player_diff(0, 1, 1).finish(),
@@ -97,8 +149,16 @@ fn largest(new: impl Fn() -> Body) -> Vec<Body> {
         new().skip(1 << 30).skip((1 << 30) - 3).finish(),
         new().skip(1 << 30).skip((1 << 30) - 2).finish(),
         new().skip(1 << 30).skip(1 << 30).finish(),
-        new().player_new(5, 0, 0).skip(MOST - 1).player_diff(5, 0, 0).finish(),
-        new().player_new(5, 0, 0).skip(MOST - 2).player_diff(5, 0, 0).finish(),
+        new()
+            .player_new(5, 0, 0)
+            .skip(MOST - 1)
+            .player_diff(5, 0, 0)
+            .finish(),
+        new()
+            .player_new(5, 0, 0)
+            .skip(MOST - 2)
+            .player_diff(5, 0, 0)
+            .finish(),
         last().raw(&[0x41]),
         odd_skips(new()),
     ]

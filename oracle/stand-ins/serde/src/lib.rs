@@ -20,7 +20,10 @@ pub mod ser {
     pub trait SerializeSeq {
         type Ok;
         type Error;
-        fn serialize_element<T: Serialize + ?Sized>(&mut self, value: &T) -> Result<(), Self::Error>;
+        fn serialize_element<T: Serialize + ?Sized>(
+            &mut self,
+            value: &T,
+        ) -> Result<(), Self::Error>;
         fn end(self) -> Result<Self::Ok, Self::Error>;
     }
 }

@@ -1,5 +1,5 @@
-//! Stand-in for vec_map: a map from small numbers. Like the original it keeps a `Vec` of options; keys too large for that
-//! go into a tree, so that a client number near the largest takes little memory.
+//! Stand-in for vec_map: a map from small numbers. Like the original it keeps a `Vec` of options; keys too
+//! large for that go into a tree, so that a client number near the largest takes little memory.
 
 use std::collections::BTreeMap;
 
