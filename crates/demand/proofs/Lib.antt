@@ -1,0 +1,4 @@
+pub mod Wrap
+pub mod Tests
+pub mod Ten
+pub mod Integers
