@@ -2,3 +2,5 @@ pub mod Wrap
 pub mod Tests
 pub mod Ten
 pub mod Integers
+pub mod Entries
+pub mod Telling
