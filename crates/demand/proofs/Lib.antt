@@ -4,3 +4,5 @@ pub mod Ten
 pub mod Integers
 pub mod Entries
 pub mod Telling
+pub mod Steps
+pub mod Events
