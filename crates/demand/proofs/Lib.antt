@@ -6,3 +6,4 @@ pub mod Entries
 pub mod Telling
 pub mod Steps
 pub mod Events
+pub mod Numbers
