@@ -72,14 +72,14 @@ use Rattle.demand.proofs.Entries.{
   former-back,
 }
 use Rattle.demand.proofs.Telling.{seen, told-input, told-other, told-new, told-old, told-change}
-use Rattle.demand.proofs.Steps.{reader, Fair, fair-cond, Here, fair-refused, fair-event}
+use Rattle.demand.proofs.Steps.{reader, Keeps, fair-cond, Here, fair-refused, fair-event}
 
 module _ (s : Scalars) (m : Memory) (h : List Seen) (w : List ℕ) (i : Here s (m .entries) h) (ins : s .inside ≡ true) where
   -- a step that gives an event and leaves good entries e, where the event taken off e leaves the entries before
   fair-inside : (ev : Event) (n : ℕ) (e : Entries) (ten former : List ℤ) → Sizes e → goodEntries e ≡ true
       → Told e (seen ev ten former (take n w) ∷ h)
       → takeOff ev ten former (In (s .tick)) e ≡ was (board (In (s .tick)) (m .entries))
-      → Fair (boardOf (reader s (m .entries))) h w (step (gives ev n) s (record { entries = e; input = ten; former = former }))
+      → Keeps s m h w (step (gives ev n) s (record { entries = e; input = ten; former = former }))
   unfolding stepBack boardOf goodBoard
   fair-inside ev n e ten former z g t k =
       fair-event s m h w i (boardOf (reader s (m .entries))) ev n s (record { entries = e; input = ten; former = former }) z t
@@ -90,7 +90,7 @@ module _ (s : Scalars) (m : Memory) (h : List Seen) (w : List ℕ) (i : Here s (
       → cond a (was (board (In (s .tick)) e)) (refused NotLast) ≡ was (board (In (s .tick)) (m .entries))
   leaves p q = rw (p, q)
 
-  pub fair-diff : (c dx dy : ℤ) (n : ℕ) → difference (take n w) ≡ (dx, dy) → Fair (boardOf (reader s (m .entries))) h w (playerDiff s m c dx dy n)
+  pub fair-diff : (c dx dy : ℤ) (n : ℕ) → difference (take n w) ≡ (dx, dy) → Keeps s m h w (playerDiff s m c dx dy n)
   unfolding playerDiff
   fair-diff (negsuc c) dx dy n d = fair-refused s m h w i PlayerDiffWithoutNew
   fair-diff (pos c) dx dy n d =
@@ -109,7 +109,7 @@ module _ (s : Scalars) (m : Memory) (h : List Seen) (w : List ℕ) (i : Here s (
       (leaves (stands e (i .sizes) c hc x y) (there-back e (i .sizes) c hc 1 x y (a .1)))))
       (λ p. fair-refused s m h w i PlayerDiffWithoutNew)
 
-  pub fair-new : (c x y : ℤ) (n : ℕ) → SFits w32 x → SFits w32 y → Fair (boardOf (reader s (m .entries))) h w (newPlayer s m c x y n)
+  pub fair-new : (c x y : ℤ) (n : ℕ) → SFits w32 x → SFits w32 y → Keeps s m h w (newPlayer s m c x y n)
   unfolding newPlayer refusal
   fair-new (negsuc c) x y n fx fy = fair-refused s m h w i InvalidClientId
   fair-new (pos c) x y n fx fy =
@@ -128,7 +128,7 @@ module _ (s : Scalars) (m : Memory) (h : List Seen) (w : List ℕ) (i : Here s (
       (leaves (stands e (i .sizes) c hc x y) (absent-back e (i .sizes) c hc (i .good) x y a))))
       (λ l. fair-refused s m h w i ClientTooLarge)
 
-  pub fair-old : (c : ℤ) (n : ℕ) → Fair (boardOf (reader s (m .entries))) h w (oldPlayer s m c n)
+  pub fair-old : (c : ℤ) (n : ℕ) → Keeps s m h w (oldPlayer s m c n)
   unfolding oldPlayer
   fair-old (negsuc c) n = fair-refused s m h w i InvalidClientId
   fair-old (pos c) n =
@@ -146,7 +146,7 @@ module _ (s : Scalars) (m : Memory) (h : List Seen) (w : List ℕ) (i : Here s (
 
   -- the ten numbers become ns, where there were some or none before
   fair-changed : (c : ℕ) (had : Bool) (ns : List ℤ) (n : ℕ) → c < 128 → eqb (getD (m .entries .held) c 0) 1 ≡ had → length ns ≡ 10
-      → Fair (boardOf (reader s (m .entries))) h w (step (gives (input (pos c) had) n) s (changed m c ns))
+      → Keeps s m h w (step (gives (input (pos c) had) n) s (changed m c ns))
   fair-changed c had ns n hc a ten =
       let e = m .entries in
       let former = tenOf (e .inputs) c in
@@ -161,7 +161,7 @@ module _ (s : Scalars) (m : Memory) (h : List Seen) (w : List ℕ) (i : Here s (
   unfolding sums
   sums-length k l = refl
 
-  pub fair-add : (c : ℤ) (ds : List ℤ) (n : ℕ) → Fair (boardOf (reader s (m .entries))) h w (inputDiff s m c ds n)
+  pub fair-add : (c : ℤ) (ds : List ℤ) (n : ℕ) → Keeps s m h w (inputDiff s m c ds n)
   unfolding inputDiff
   fair-add (negsuc c) ds n = fair-refused s m h w i InvalidClientId
   fair-add (pos c) ds n =
@@ -172,7 +172,7 @@ module _ (s : Scalars) (m : Memory) (h : List Seen) (w : List ℕ) (i : Here s (
       fair-changed c true (sums (tenOf (e .inputs) c) ds) n (ltb-true c 128 (a .0)) (a .1) (sums-length (tenOf (e .inputs) c) ds))
       (λ p. fair-refused s m h w i InputDiffWithoutNew)
 
-  pub fair-set : (c : ℤ) (ns : List ℤ) (n : ℕ) → length ns ≡ 10 → Fair (boardOf (reader s (m .entries))) h w (inputNew s m c ns n)
+  pub fair-set : (c : ℤ) (ns : List ℤ) (n : ℕ) → length ns ≡ 10 → Keeps s m h w (inputNew s m c ns n)
   unfolding inputNew
   fair-set (negsuc c) ns n ten = fair-refused s m h w i InvalidClientId
   fair-set (pos c) ns n ten =

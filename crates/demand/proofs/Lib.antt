@@ -7,3 +7,4 @@ pub mod Telling
 pub mod Steps
 pub mod Events
 pub mod Numbers
+pub mod Calls

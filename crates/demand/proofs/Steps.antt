@@ -65,6 +65,10 @@ pub record Good (b : Board) (h : List Seen) (w : List ℕ) (t : Step) : Type 0 w
 abbrev pub Fair : Board → List Seen → List ℕ → Step → Type 0
 Fair b h w t = is13 (t .said) ≡ false → Good b h w t
 
+-- a step on scalars s and memory m
+abbrev pub Keeps : Scalars → Memory → List Seen → List ℕ → Step → Type 0
+Keeps s m h w t = Fair (boardOf (reader s (m .entries))) h w t
+
 pub fair-cond : {b : Board} {h : List Seen} {w : List ℕ} {t u : Step} (a : Bool)
     → (a ≡ true → Fair b h w t) → (a ≡ false → Fair b h w u) → Fair b h w (cond a t u)
 fair-cond true f g = f refl
@@ -89,16 +93,16 @@ next-good (negsuc t) d u e = let z : _≡_ {A = ℕ} 0 1 = cc in absurd (omega a
 module _ (s : Scalars) (m : Memory) (h : List Seen) (w : List ℕ) (i : Here s (m .entries) h) where
   -- ---- no event
 
-  pub fair-refused : (r : Refusal) → Fair (boardOf (reader s (m .entries))) h w (refusal r s m)
+  pub fair-refused : (r : Refusal) → Keeps s m h w (refusal r s m)
   unfolding backOver boardOf refusal closing
   fair-refused r q = record { sizes = i .sizes; told = i .told; back = refl }
 
-  pub fair-out : (last : Bool) → Fair (boardOf (reader s (m .entries))) h w (outOf last s m)
+  pub fair-out : (last : Bool) → Keeps s m h w (outOf last s m)
   unfolding backOver outOf
   fair-out true = fair-refused UnexpectedEnd
   fair-out false = λ q. record { sizes = i .sizes; told = i .told; back = refl }
 
-  pub fair-finish : (n : ℕ) → Fair (boardOf (reader s (m .entries))) h w (step (finish n) (closing s) m)
+  pub fair-finish : (n : ℕ) → Keeps s m h w (step (finish n) (closing s) m)
   unfolding backOver boardOf closing
   fair-finish n q = record { sizes = i .sizes; told = i .told; back = refl }
 
@@ -114,7 +118,7 @@ module _ (s : Scalars) (m : Memory) (h : List Seen) (w : List ℕ) (i : Here s (
   -- an event of no client's entry
   fair-plain : (e : Event) (n : ℕ) (s′ : Scalars) → ((c : ℤ) → about c e ≡ nothing) → isNew e ≡ 0 → isOld e ≡ 0
       → stepBack (boardOf (reader s′ (m .entries))) e (m .input) (m .former) ≡ was (boardOf (reader s (m .entries)))
-      → Fair (boardOf (reader s (m .entries))) h w (step (gives e n) s′ m)
+      → Keeps s m h w (step (gives e n) s′ m)
   fair-plain e n s′ a p q k =
       fair-event (boardOf (reader s (m .entries))) e n s′ m (i .sizes)
       (told-other (m .entries) (seen e (m .input) (m .former) (take n w)) h a p q (i .told)) k
@@ -131,16 +135,16 @@ module _ (s : Scalars) (m : Memory) (h : List Seen) (w : List ℕ) (i : Here s (
   unfolding stepBack boardOf goodBoard
   end-back o = rw (o, i .good, i .tick)
 
-  pub fair-start : (k : Kind) (n : ℕ) → s .inside ≡ false → Fair (boardOf (reader s (m .entries))) h w (step (gives (tickStart (s .tick)) n) (starting k s) m)
+  pub fair-start : (k : Kind) (n : ℕ) → s .inside ≡ false → Keeps s m h w (step (gives (tickStart (s .tick)) n) (starting k s) m)
   unfolding boardOf starting
   fair-start k n o = fair-plain (tickStart (s .tick)) n (starting k s) (λ c. refl) refl refl (start-back (s .tick) o (i .tick))
 
   pub fair-end : (t : ℤ) (p : Cid) (k : Kind) (n : ℕ) → s .inside ≡ true
-      → Fair (boardOf (reader s (m .entries))) h w (step (gives (tickEnd (s .tick)) n) (ending t p k s) m)
+      → Keeps s m h w (step (gives (tickEnd (s .tick)) n) (ending t p k s) m)
   unfolding boardOf ending
   fair-end t p k n o = fair-plain (tickEnd (s .tick)) n (ending t p k s) (λ c. refl) refl refl (end-back o)
 
-  fair-skipped : (n : ℕ) (x : Next) → ((t : ℤ) → x ≡ Tick t → nonNeg t ≡ true) → Fair (boardOf (reader s (m .entries))) h w (skipped s m n x)
+  fair-skipped : (n : ℕ) (x : Next) → ((t : ℤ) → x ≡ Tick t → nonNeg t ≡ true) → Keeps s m h w (skipped s m n x)
   unfolding boardOf skipping
   fair-skipped n (Tick t) g =
       fair-cond (s .inside)
@@ -148,13 +152,13 @@ module _ (s : Scalars) (m : Memory) (h : List Seen) (w : List ℕ) (i : Here s (
       (λ o. fair-plain (tickStart t) n (skipping t true s) (λ c. refl) refl refl (start-back t o (g t refl)))
   fair-skipped n Past g = fair-refused TickOverflow
 
-  pub fair-skip : (dt n : ℕ) → Fair (boardOf (reader s (m .entries))) h w (tickSkip s m dt n)
+  pub fair-skip : (dt n : ℕ) → Keeps s m h w (tickSkip s m dt n)
   unfolding tickSkip
   fair-skip dt n = fair-skipped n (nextTick (s .tick) dt) (next-good (s .tick) dt)
 
   -- ---- a record that changes no entry, inside a tick
 
-  pub fair-other : s .inside ≡ true → (c : Content Part) (n : ℕ) → Fair (boardOf (reader s (m .entries))) h w (otherRecord s m c n)
+  pub fair-other : s .inside ≡ true → (c : Content Part) (n : ℕ) → Keeps s m h w (otherRecord s m c n)
   unfolding otherRecord raising boardOf stepBack goodBoard
   fair-other o c n =
       fair-plain (other c) n (raising (cidOf c) s) (λ d. refl) refl refl (rw (o, i .tick, i .good))
