@@ -8,3 +8,4 @@ pub mod Steps
 pub mod Events
 pub mod Numbers
 pub mod Calls
+pub mod Theorem
