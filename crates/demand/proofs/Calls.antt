@@ -1,25 +1,36 @@
 -- One reading call keeps what a step has to keep. Assumes nothing.
-use Prim.Native.Nat.{ℕ, _+_}
-use mathlib.Core.Path.{_≡_, refl, sym, _∙_, ap}
+use Prim.Native.Nat.{ℕ}
+use mathlib.Core.Path.{_≡_, refl}
 use mathlib.Core.Bool.{Bool, true, false, cond}
-use mathlib.Core.List.{List, [], _∷_, _++_}
+use mathlib.Core.List.{List, [], _∷_}
 use native.Mathlib.Omega.{arith}
 use lib.ListN.{length, take, drop}
 use lib.IntN.{ℤ}
-use Rattle.refusal.specs.declared.Refusal.the-variants.{TickOverflow, Closed}
-use Rattle.num.proofs.Cases.{by-bool}
+use Rattle.refusal.specs.declared.Refusal.the-variants.{TickOverflow}
 use Rattle.packer.specs.Parts.{shown, readRaw, readData}
 use Rattle.packer.specs.declared.Part.{Part}
 use Rattle.packer.specs.declared.PartRead.{PartRead}
 use Rattle.packer.specs.declared.PartRead.the-variants as parts
-use Rattle.fields.specs.Fields.{dt, int, mask, str, blob, args, Value, bytes, Reading, got, runsOut, refused, readFields}
+use Rattle.fields.specs.Fields.{
+  dt,
+  int,
+  mask,
+  str,
+  blob,
+  args,
+  Value,
+  bytes,
+  Reading,
+  got,
+  runsOut,
+  refused,
+  readFields,
+}
 use Rattle.fields.specs.Views.{numbers}
-use Rattle.item.specs.Said.{refusing}
 use Rattle.item.specs.Extensions.{Payload, shaped, whole, unknown, find, payloadAt}
-use Rattle.item.specs.Records.{Content, content, asContent, upTo, ofPayload, afterData, afterId, readEx, readRest}
+use Rattle.item.specs.Records.{content, asContent, upTo, ofPayload, afterData, afterId, readEx, readRest}
 use Rattle.item.specs.declared.Kind.{Kind}
 use Rattle.item.specs.declared.Kind.the-variants as kinds
-use Rattle.item.specs.declared.Tag.{Tag}
 use Rattle.item.specs.declared.Tag.the-variants.{Plain, Named, Other}
 use Rattle.item.specs.declared.Cid.{Cid}
 use Rattle.item.specs.declared.Cid.the-variants.{Of, NoCid}
@@ -38,7 +49,6 @@ use Rattle.state.specs.Reading.{
   otherRule,
   tickRule,
   otherRecord,
-  step,
   withRest,
   withRule,
   withKind,
@@ -61,8 +71,6 @@ use Rattle.demand.proofs.Integers.{Run, run-append, run-difference}
 use Rattle.demand.proofs.Numbers.{Ints, had, out, ints-read, run-fits, Began, KindAt, next-at}
 use Rattle.demand.proofs.Entries.{Sizes}
 use Rattle.demand.proofs.Steps.{
-  reader,
-  Good,
   Fair,
   Keeps,
   fair-cond,
@@ -163,10 +171,10 @@ module _ (s : Scalars) (m : Memory) (h : List Seen) (w : List ℕ) (i : Here s (
   fair-else k n f = rule-cond k n Reads Starts (s .inside) f (λ o. fair-start s m h w i k n o)
 
   -- a record of a kind that changes no entry
-  fair-plain : (k : Kind) (o : Reading (List (Value Part)))
+  fair-record : (k : Kind) (o : Reading (List (Value Part)))
       → ((vs : List (Value Part)) (next : ℕ) → apply s m (content (Plain k) vs) next ≡ otherRecord s m (content (Plain k) vs) next)
       → s .inside ≡ true → Keeps s m h w (withRest s m last (asContent (Plain k) o))
-  fair-plain k o e ins =
+  fair-record k o e ins =
       fair-fields k o (λ vs next. rw (e vs next) (fair-other s m h w i ins (content (Plain k) vs) next))
 
   fair-kind : (k : Kind) (at : ℕ) → Began w at → Keeps s m h w (withRule s m w last k at (tickRule s k))
@@ -207,12 +215,12 @@ module _ (s : Scalars) (m : Memory) (h : List Seen) (w : List ℕ) (i : Here s (
       (λ vs next r l.
       let c = first (numbers vs) in
       fair-set (raising (Of c) s) m h w (raised (Of c)) ins c (drop 1 (numbers vs)) next (ten-left (numbers vs) l)))
-  fair-kind kinds.Message at b = fair-else kinds.Message at (fair-plain kinds.Message (readFields (int ∷ blob ∷ []) w at) (λ vs next. refl))
-  fair-kind kinds.Join at b = fair-else kinds.Join at (fair-plain kinds.Join (readFields (int ∷ []) w at) (λ vs next. refl))
-  fair-kind kinds.Drop at b = fair-else kinds.Drop at (fair-plain kinds.Drop (readFields (int ∷ str ∷ []) w at) (λ vs next. refl))
+  fair-kind kinds.Message at b = fair-else kinds.Message at (fair-record kinds.Message (readFields (int ∷ blob ∷ []) w at) (λ vs next. refl))
+  fair-kind kinds.Join at b = fair-else kinds.Join at (fair-record kinds.Join (readFields (int ∷ []) w at) (λ vs next. refl))
+  fair-kind kinds.Drop at b = fair-else kinds.Drop at (fair-record kinds.Drop (readFields (int ∷ str ∷ []) w at) (λ vs next. refl))
   fair-kind kinds.ConsoleCommand at b =
       fair-else kinds.ConsoleCommand at
-      (fair-plain kinds.ConsoleCommand (readFields (int ∷ mask ∷ str ∷ args ∷ []) w at) (λ vs next. refl))
+      (fair-record kinds.ConsoleCommand (readFields (int ∷ mask ∷ str ∷ args ∷ []) w at) (λ vs next. refl))
   fair-kind kinds.Ex at b = fair-else kinds.Ex at (λ ins. fair-id ins (readRaw 16 w at))
 
   -- ---- the call

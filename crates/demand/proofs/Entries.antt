@@ -1,6 +1,6 @@
 -- Entries: they stay good where one is changed, and a change is taken back. Assumes nothing.
 use Prim.Native.Nat.{ℕ, zero, suc, _+_, _<_}
-use mathlib.Core.Path.{_≡_, refl, sym, _∙_, ap}
+use mathlib.Core.Path.{_≡_, _∙_}
 use mathlib.Core.Bool.{Bool, true, false, not, cond, _&&_}
 use mathlib.Core.List.{List, [], _∷_}
 use native.Mathlib.Omega.{arith}
@@ -11,7 +11,6 @@ use lib.Dec.{ltb, eqb}
 use lib.IntN.{ℤ, pos}
 use borrow.Author.Tests.{eqb-true, lt-ltb}
 use Rattle.num.proofs.Cases.{by-eq}
-use Rattle.fields.specs.Views.{zeros}
 use Rattle.state.specs.State.{
   same,
   present,
@@ -34,7 +33,16 @@ use Rattle.state.specs.State.{
 use Rattle.state.specs.declared.Entries.{Entries}
 use Rattle.back.specs.Back.{sameAll, presentAt, formerInput}
 use Rattle.demand.specs.Demand.{players}
-use Rattle.demand.proofs.Tests.{and-true, and-both, same-refl, same-true, same-all-refl, every-at, every-from, blank}
+use Rattle.demand.proofs.Tests.{
+  and-true,
+  and-both,
+  same-refl,
+  same-true,
+  same-all-refl,
+  every-at,
+  every-from,
+  blank,
+}
 use Rattle.demand.proofs.Ten.{ten-zeros, put-length, ten-put, zeros-off, put-back}
 
 pub record Sizes (e : Entries) : Type 0 where

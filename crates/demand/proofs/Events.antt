@@ -1,9 +1,9 @@
 -- The records that change a client's entry, inside a tick: each keeps what a step has to keep. Assumes nothing.
 use Prim.Native.Nat.{ℕ, _<_}
-use mathlib.Core.Path.{_≡_, refl, sym, _∙_, ap}
-use mathlib.Core.Bool.{Bool, true, false, not, cond, _&&_, false≢true}
+use mathlib.Core.Path.{_≡_, refl, sym}
+use mathlib.Core.Bool.{Bool, true, false, cond, false≢true}
 use mathlib.Core.List.{List, _∷_}
-use lib.ListN.{length, getD, take, length-map}
+use lib.ListN.{length, getD, take}
 use lib.Dec.{ltb, eqb}
 use lib.IntN.{ℤ, pos, negsuc, _+ℤ_}
 use borrow.Author.Tests.{ltb-true}
@@ -19,26 +19,13 @@ use Rattle.refusal.specs.declared.Refusal.the-variants.{
 }
 use Rattle.num.specs.Wrap.{wrap32}
 use Rattle.item.specs.Said.{gives}
-use Rattle.state.specs.State.{
-  Memory,
-  withEntries,
-  present,
-  xOf,
-  yOf,
-  withPlayer,
-  moved,
-  holds,
-  tenOf,
-  withInput,
-  goodEntries,
-}
+use Rattle.state.specs.State.{Memory, present, xOf, yOf, withPlayer, holds, tenOf, withInput, goodEntries}
 use Rattle.state.specs.Reading.{
   Event,
   playerNew,
   playerChange,
   playerOld,
   input,
-  Step,
   step,
   playerDiff,
   newPlayer,
@@ -52,11 +39,10 @@ use Rattle.state.specs.Reading.{
 use Rattle.state.specs.declared.Entries.{Entries}
 use Rattle.state.specs.declared.Scalars.{Scalars}
 use Rattle.back.specs.Board.{board, boardOf, goodBoard}
-use Rattle.back.specs.Back.{Back, was, refused, takeOff, stepBack}
+use Rattle.back.specs.Back.{was, refused, takeOff, stepBack}
 use Rattle.back.specs.declared.BoardTick.the-variants.{In}
 use Rattle.demand.specs.Demand.{Seen, difference, Told}
 use Rattle.demand.proofs.Tests.{and-true}
-use Rattle.demand.proofs.Ten.{ten-length}
 use Rattle.demand.proofs.Entries.{
   Sizes,
   player-sizes,
@@ -73,6 +59,10 @@ use Rattle.demand.proofs.Entries.{
 }
 use Rattle.demand.proofs.Telling.{seen, told-input, told-other, told-new, told-old, told-change}
 use Rattle.demand.proofs.Steps.{reader, Keeps, fair-cond, Here, fair-refused, fair-event}
+
+sums-length : (k l : List ℤ) → length (sums k l) ≡ 10
+unfolding sums
+sums-length k l = refl
 
 module _ (s : Scalars) (m : Memory) (h : List Seen) (w : List ℕ) (i : Here s (m .entries) h) (ins : s .inside ≡ true) where
   -- a step that gives an event and leaves good entries e, where the event taken off e leaves the entries before
@@ -156,10 +146,6 @@ module _ (s : Scalars) (m : Memory) (h : List Seen) (w : List ℕ) (i : Here s (
       (told-input e c 1 ns (seen (input (pos c) had) ns former (take n w) ∷ h)
       (told-other e (seen (input (pos c) had) ns former (take n w)) h (λ d. refl) refl refl (i .told)))
       (leaves (held-now e (i .sizes) c hc ns ten) (former-back e (i .sizes) c hc (i .good) ns had a))
-
-  sums-length : (k l : List ℤ) → length (sums k l) ≡ 10
-  unfolding sums
-  sums-length k l = refl
 
   pub fair-add : (c : ℤ) (ds : List ℤ) (n : ℕ) → Keeps s m h w (inputDiff s m c ds n)
   unfolding inputDiff

@@ -4,13 +4,13 @@ use mathlib.Core.Path.{_≡_, refl, sym, _∙_, ap}
 use mathlib.Core.Bool.{true, false}
 use mathlib.Core.List.{List, [], _∷_, _++_}
 use native.Mathlib.Omega.{arith}
-use lib.ListN.{length, getD, take, drop, length-take, length-drop, drop-of-length-le, length-append}
+use lib.ListN.{length, getD, take, drop, length-take, length-drop, drop-of-length-le}
 use lib.Seq.{getD-take, take-nil, length-take-le}
 use lib.IntN.{ℤ}
 use Rattle.num.proofs.Cases.{by-bool}
 use Rattle.varint.specs.Integers.{signOf, isLast, amount, readFrom, readInt}
 use Rattle.varint.specs.declared.Remark.{Remark}
-use Rattle.varint.specs.declared.IntRead.the-variants.{Got, RunsOut}
+use Rattle.varint.specs.declared.IntRead.the-variants.{Got}
 use Rattle.demand.specs.Demand.{integers, lastTwo, difference}
 
 -- ---- one integer: it uses a byte or more, and no byte past them matters

@@ -1,7 +1,7 @@
 -- What is read before and in a record: integers, one after the other. Assumes nothing.
 use Prim.Native.Nat.{ℕ, zero, suc}
 use mathlib.Core.Path.{_≡_, refl, ap}
-use mathlib.Core.List.{List, [], _∷_, _++_}
+use mathlib.Core.List.{List, [], _∷_}
 use native.Mathlib.Omega.{arith}
 use lib.ListN.{length, getD, replicate}
 use lib.IntN.{ℤ, pos, negsuc}
@@ -13,7 +13,7 @@ use Rattle.varint.specs.declared.IntRead.{IntRead}
 use Rattle.varint.specs.declared.IntRead.the-variants as ints
 use Rattle.varint.proofs.Prefix.{int-fits}
 use Rattle.packer.specs.declared.Part.{Part}
-use Rattle.fields.specs.Fields.{Field, int, Value, num, Reading, got, runsOut, refused, intField, push, andThen, readFields}
+use Rattle.fields.specs.Fields.{int, Value, num, Reading, got, runsOut, refused, intField, push, andThen, readFields}
 use Rattle.fields.specs.Views.{numbers}
 use Rattle.item.specs.Kinds.{withClient, extension, kindOf, afterNumber, readKind}
 use Rattle.item.specs.declared.Version.{Version}
@@ -33,12 +33,14 @@ pub data Ints (w : List ℕ) (at n : ℕ) : Reading (List (Value Part)) → Type
   out : Ints w at n runsOut
 
 module _ (w : List ℕ) where
-  pushed : {at m n : ℕ} {z : ℤ} {o : Reading (List (Value Part))} (r : Remark) → readInt w at ≡ ints.Got z m r → Ints w m n o → Ints w at (suc n) (push (num z) o)
+  pushed : {at m n : ℕ} {z : ℤ} {o : Reading (List (Value Part))} (r : Remark) → readInt w at ≡ ints.Got z m r → Ints w m n o
+      → Ints w at (suc n) (push (num z) o)
   unfolding numbers
   pushed {z = z} r e (had vs next s l) = had (num z ∷ vs) next (one r e s) (ap suc l)
   pushed r e out = out
 
-  next-int : (at n : ℕ) (x : IntRead) (k : ℕ → Reading (List (Value Part))) → readInt w at ≡ x → ((m : ℕ) → Ints w m n (k m)) → Ints w at (suc n) (andThen (intField x) k)
+  next-int : (at n : ℕ) (x : IntRead) (k : ℕ → Reading (List (Value Part))) → readInt w at ≡ x
+      → ((m : ℕ) → Ints w m n (k m)) → Ints w at (suc n) (andThen (intField x) k)
   next-int at n (ints.Got z m r) k e f = pushed r e (f m)
   next-int at n ints.RunsOut k e f = out
 
@@ -68,7 +70,8 @@ KindAt w (refused r) = Unit {0}
 begun : {w : List ℕ} {zs : List ℤ} {at : ℕ} → Run w 0 zs at → Began w at
 begun {w} {zs} s = record { before = zs; run = s }
 
-client-at : {w : List ℕ} {zs : List ℤ} {at : ℕ} (kind : ℤ → Kind) → Run w 0 zs at → (x : IntRead) → readInt w at ≡ x → KindAt w (withClient kind x)
+client-at : {w : List ℕ} {zs : List ℤ} {at : ℕ} (kind : ℤ → Kind) → Run w 0 zs at → (x : IntRead) → readInt w at ≡ x
+    → KindAt w (withClient kind x)
 client-at kind s (ints.Got c next r) e = begun (run-append s (one r e none))
 client-at kind s ints.RunsOut e = tt
 

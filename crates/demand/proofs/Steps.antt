@@ -2,7 +2,7 @@
 use Prim.Native.Nat.{ℕ, _+_}
 use mathlib.Core.Path.{_≡_, refl}
 use mathlib.Core.Bool.{Bool, true, false, cond}
-use mathlib.Core.List.{List, [], _∷_, _++_}
+use mathlib.Core.List.{List, _∷_, _++_}
 use native.Mathlib.Omega.{arith}
 use lib.ListN.{take}
 use lib.Dec.{ltb}
@@ -12,7 +12,7 @@ use Rattle.refusal.specs.declared.Refusal.{Refusal}
 use Rattle.refusal.specs.declared.Refusal.the-variants.{UnexpectedEnd, TickOverflow}
 use Rattle.num.proofs.Cases.{by-bool}
 use Rattle.packer.specs.declared.Part.{Part}
-use Rattle.item.specs.Said.{gives, more, finish, refuses, refusing}
+use Rattle.item.specs.Said.{gives, finish}
 use Rattle.item.specs.Records.{Content}
 use Rattle.item.specs.Contents.{cidOf}
 use Rattle.item.specs.declared.Kind.{Kind}
@@ -44,7 +44,7 @@ use Rattle.state.specs.declared.Reader.{Reader}
 use Rattle.state.specs.declared.Next.{Next}
 use Rattle.state.specs.declared.Next.the-variants.{Tick, Past}
 use Rattle.back.specs.Board.{board, boardOf, goodBoard}
-use Rattle.back.specs.Back.{Back, was, takeOff, stepBack}
+use Rattle.back.specs.Back.{was, stepBack}
 use Rattle.back.specs.declared.Board.{Board}
 use Rattle.back.specs.declared.BoardTick.the-variants.{In, NoTick}
 use Rattle.demand.specs.Demand.{Seen, seenIn, is13, backOver, about, nothing, isNew, isOld, Told}

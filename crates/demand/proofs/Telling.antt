@@ -1,7 +1,7 @@
 -- What the events tell of the entries is kept by each event. Assumes nothing.
 use Prim.Native.Nat.{ℕ, _+_, _<_}
 use mathlib.Core.Path.{_≡_, refl, sym, _∙_, ap}
-use mathlib.Core.Bool.{Bool, true, false, cond, false≢true}
+use mathlib.Core.Bool.{true, false, cond, false≢true}
 use mathlib.Core.List.{List, _∷_}
 use native.Mathlib.Omega.{arith}
 use native.Mathlib.Decide.{ℕ-discrete}
@@ -35,7 +35,6 @@ use Rattle.demand.specs.Demand.{
   isOld,
   count,
   players,
-  presentOn,
   positionOn,
   Told,
 }

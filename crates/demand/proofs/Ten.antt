@@ -10,7 +10,7 @@ use lib.Seq.{getD-set-same, getD-set-other, ext-getD}
 use lib.IntN.{ℤ, pos}
 use Rattle.num.proofs.Cases.{by-eq}
 use Rattle.fields.specs.Views.{zeros}
-use Rattle.state.specs.State.{same, places, tenOf, puts, putTen, zeroAt, tenZeros}
+use Rattle.state.specs.State.{same, tenOf, puts, putTen, zeroAt, tenZeros}
 use Rattle.demand.proofs.Tests.{same-true, every-at, every-same}
 
 -- n places from k on

@@ -1,6 +1,6 @@
 -- Demand 3 (specs/Demand.antt). Assumes nothing.
 use Prim.Native.Nat.{ℕ, zero, suc, _+_}
-use mathlib.Core.Path.{_≡_, refl, sym, _∙_, ap}
+use mathlib.Core.Path.{_≡_, refl, _∙_, ap}
 use mathlib.Core.Bool.{Bool, true, false, _&&_, false≢true}
 use mathlib.Core.List.{List, [], _∷_, _++_, append-assoc, append-nil}
 use lib.ListN.{getD, replicate, length-replicate}
@@ -28,7 +28,6 @@ use Rattle.demand.specs.Demand.{
   players,
   presentOn,
   Told,
-  Kept,
   Demand3,
 }
 use Rattle.demand.proofs.Tests.{or-false}
