@@ -18,7 +18,7 @@ use Rattle.item.specs.Contents.{itemOf, ownFields, beside, noArgs, recordWith, 
 use Rattle.item.specs.declared.Kind.{Kind}
 use Rattle.item.specs.declared.Kind.the-variants as kinds
 use Rattle.item.specs.declared.Tag.{Tag}
-use Rattle.item.specs.declared.Tag.the-variants.{Plain, Named, Other}
+use Rattle.item.specs.declared.Tag.the-variants.{Plain, Named}
 use Rattle.item.specs.declared.Item.{Item}
 use Rattle.item.specs.declared.Item.the-variants as records
 use Rattle.item.specs.declared.Record.{Record}
@@ -27,7 +27,7 @@ use Rattle.records.specs.declared.ItemRead.{ItemRead}
 use Rattle.records.specs.declared.ItemRead.the-variants as items
 use Rattle.records.specs.declared.Rest.{Rest}
 use Rattle.records.specs.declared.Rest.the-variants as rests
-use Rattle.records.proofs.Rests.{byRest, rest-told}
+use Rattle.records.proofs.Rests.{byRest}
 
 -- ---- nothing stands beside a record
 

@@ -1,11 +1,10 @@
 -- The record call: what it says of what was read. Assumes nothing.
 use Prim.Native.Nat.{ℕ}
-use mathlib.Core.Path.{_≡_, refl, sym, _∙_, ap}
+use mathlib.Core.Path.{_≡_, refl, _∙_, ap}
 use mathlib.Core.Bool.{Bool, true, false}
 use mathlib.Core.List.{List}
-use Rattle.packer.specs.declared.Part.{Part}
-use Rattle.fields.specs.Fields.{Reading, runsOut}
-use Rattle.item.specs.Records.{Content, readRest, recordSaid, readRecord, recordCall}
+use Rattle.fields.specs.Fields.{runsOut}
+use Rattle.item.specs.Records.{readRest, recordSaid, recordCall}
 use Rattle.item.specs.declared.Version.{Version}
 use Rattle.item.specs.declared.Kind.{Kind}
 use Rattle.item.specs.declared.Item.the-variants as records

@@ -33,15 +33,13 @@ use Rattle.fields.specs.Fields.{
   readFields,
 }
 use Rattle.fields.specs.Views.{zeros, argsWith, argsRead, fieldParts}
-use Rattle.fields.specs.declared.Args.{Args}
 use Rattle.fields.specs.declared.ArgsRead.{ArgsRead}
 use Rattle.item.specs.Records.{Content, content, asContent, readRest}
 use Rattle.item.specs.Contents.{recordWith}
 use Rattle.item.specs.declared.Kind.the-variants as kinds
-use Rattle.item.specs.declared.Item.{Item}
 use Rattle.item.specs.declared.Item.the-variants as records
 use Rattle.item.specs.declared.Tag.the-variants.{Plain}
-use Rattle.records.specs.Views.{recordRead, commandRead, readIs, tidyAnswer, RestRead}
+use Rattle.records.specs.Views.{commandRead, readIs, tidyAnswer, RestRead}
 use Rattle.records.specs.declared.RecordRead.{RecordRead}
 
 -- ---- the arguments are several strings

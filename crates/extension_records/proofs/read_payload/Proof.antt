@@ -1,5 +1,4 @@
 -- `extension_records::read_payload` meets its contract. Assumes nothing.
-use Prim.Native.Nat.{ℕ}
 use mathlib.Core.Path.{_≡_, sym, _∙_, ap}
 use borrow.Author.Needs.{needs}
 use lib.Seq.{length-take-le}

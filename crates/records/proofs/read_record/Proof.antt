@@ -2,7 +2,6 @@
 use mathlib.Core.Path.{_≡_, refl, sym, _∙_, ap}
 use Rattle.item.specs.Records.{afterKind, readRecord}
 use Rattle.item.specs.Views.{kindIs}
-use Rattle.item.specs.declared.KindRead.{KindRead}
 use borrow.Author.Needs.{needs}
 use Rattle.records.proofs.read_record.Statement.{statement}
 use Rattle.records.proofs.read_record.Tie as tie

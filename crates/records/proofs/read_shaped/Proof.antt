@@ -1,6 +1,5 @@
 -- `records::read_shaped` meets its contract. Assumes nothing.
 use mathlib.Core.Path.{_≡_, sym, _∙_, ap}
-use mathlib.Core.Bool.{true}
 use Rattle.packer.specs.declared.Part.{Part}
 use Rattle.fields.specs.Fields.{got}
 use Rattle.shapes.specs.Shapes.{viewed}
