@@ -5,5 +5,6 @@ pub mod Every
 pub mod Board
 pub mod Goods
 pub mod Places
+pub mod Left
 pub mod Calls
 pub mod Theorems

@@ -5,14 +5,32 @@ use Prim.Native.Nat.{ℕ}
 use Rattle.fields.proofs.Strings.{and-both}
 use Rattle.state.specs.State.{goodEntries, goodScalars, goodReader, emptyReader}
 use Rattle.state.specs.Reading.{Step, goodCall, memoryOf, readCall, readerAfter}
-use Rattle.state.specs.Laws.{OpenCallKeeps, Sound, EmptySound, ReadersStaySound}
+use Rattle.state.specs.Laws.{
+  OpenCallKeeps,
+  NewPlaces,
+  OldLeavesInputs,
+  InputNewOverwrites,
+  Sound,
+  EmptySound,
+  ReadersStaySound,
+}
 use Rattle.state.specs.declared.Reader.{Reader}
 use Rattle.state.proofs.Every.{by-cond, left-of, right-of}
 use Rattle.state.proofs.Board.{none-good, none-sizes}
+use Rattle.state.proofs.Left as left
 use Rattle.state.proofs.Calls as calls
 
 pub open-call-keeps : OpenCallKeeps
 open-call-keeps = calls.open-call-keeps
+
+pub new-places : NewPlaces
+new-places = left.new-places
+
+pub old-leaves-inputs : OldLeavesInputs
+old-leaves-inputs = left.old-leaves-inputs
+
+pub input-new-overwrites : InputNewOverwrites
+input-new-overwrites = left.input-new-overwrites
 
 pub empty-sound : EmptySound
 unfolding emptyReader goodReader goodScalars

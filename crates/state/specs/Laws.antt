@@ -1,13 +1,14 @@
 -- What holds of a reading call, as statements; proofs/Theorems.antt proves each. Document 01, "What a call may say" and "Ticks and
 -- the board".
-use Prim.Native.Nat.{ℕ, _≤_}
+use Prim.Native.Nat.{ℕ, _≤_, _<_}
 use mathlib.Core.Path.{_≡_}
 use mathlib.Core.Bool.{Bool, true, false}
 use mathlib.Core.List.{List}
 use lib.ListN.{length}
+use lib.IntN.{ℤ, pos}
 use Rattle.item.specs.Said.{Said, gives, more, finish, refuses}
 use Rattle.item.specs.declared.Version.{Version}
-use Rattle.state.specs.State.{Memory, goodEntries, goodScalars, goodReader, emptyReader}
+use Rattle.state.specs.State.{Memory, withEntries, withPlayer, goodEntries, goodScalars, goodReader, emptyReader}
 use Rattle.state.specs.Reading.{
   Event,
   tickStart,
@@ -18,6 +19,10 @@ use Rattle.state.specs.Reading.{
   input,
   other,
   Step,
+  newPlayer,
+  oldPlayer,
+  changed,
+  inputNew,
   openCall,
   readCall,
   readerAfter,
@@ -76,6 +81,24 @@ pub record Keeps (s : Scalars) (m : Memory) (w : List ℕ) (last : Bool) (t : St
 
 abbrev pub OpenCallKeeps : Type 0
 OpenCallKeeps = (s : Scalars) (m : Memory) (w : List ℕ) (last : Bool) → Keeps s m w last (openCall s m w last)
+
+-- ---- what some records leave (rule 7)
+
+-- a PlayerNew of a client below 128 sets its entry, where it is refused 13 too
+abbrev pub NewPlaces : Type 0
+NewPlaces =
+    (s : Scalars) (m : Memory) (c : ℕ) (x y : ℤ) (n : ℕ) → c < 128
+    → newPlayer s m (pos c) x y n .memory ≡ withEntries (withPlayer (m .entries) c 1 x y) m
+
+abbrev pub OldLeavesInputs : Type 0
+OldLeavesInputs =
+    (s : Scalars) (m : Memory) (c : ℤ) (n : ℕ)
+    → (oldPlayer s m c n .memory .entries .held ≡ m .entries .held) × (oldPlayer s m c n .memory .entries .inputs ≡ m .entries .inputs)
+
+-- an InputNew of a client below 128 overwrites what was there
+abbrev pub InputNewOverwrites : Type 0
+InputNewOverwrites =
+    (s : Scalars) (m : Memory) (c : ℕ) (ns : List ℤ) (n : ℕ) → c < 128 → inputNew s m (pos c) ns n .memory ≡ changed m c ns
 
 -- ---- good readers
 
