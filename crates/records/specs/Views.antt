@@ -2,34 +2,28 @@
 use Prim.Native.Nat.{ℕ}
 use mathlib.Core.Path.{_≡_}
 use mathlib.Core.Bool.{Bool, true, false, cond}
-use mathlib.Core.List.{List, [], _∷_}
+use mathlib.Core.List.{List}
 use lib.IntN.{ℤ}
 use lib.ListN.{length, take}
 use Rattle.refusal.specs.declared.Refusal.the-variants.{UnexpectedEnd}
 use Rattle.packer.specs.declared.Part.{Part}
-use Rattle.fields.specs.Fields.{bytes, Reading, got, runsOut, refused}
+use Rattle.fields.specs.Fields.{Reading, got, runsOut, refused}
 use Rattle.fields.specs.Views.{zeros}
 use Rattle.fields.specs.declared.Args.{Args}
 use Rattle.fields.specs.declared.ArgsAnswer.{ArgsAnswer}
 use Rattle.fields.specs.declared.ArgsAnswer.the-variants as args
-use Rattle.shapes.specs.Shapes.{fieldsIn, idPart, valuesIn}
 use Rattle.shapes.specs.declared.Shape.the-variants as shapes
-use Rattle.shapes.specs.declared.Fields.{Fields}
 use Rattle.item.specs.Said.{Said, gives, more, refusing}
-use Rattle.item.specs.Extensions.{Payload, shaped, whole, unknown}
 use Rattle.item.specs.Records.{Content, content, readRest, readRecord, recordCall}
 use Rattle.item.specs.Contents.{itemOf, ownFields, recordWith, noArgs, recordOf, blank, tidyRecord}
 use Rattle.item.specs.declared.Version.{Version}
 use Rattle.item.specs.declared.Kind.{Kind}
 use Rattle.item.specs.declared.Kind.the-variants as kinds
-use Rattle.item.specs.declared.Tag.the-variants.{Named, Other}
 use Rattle.item.specs.declared.Item.{Item}
 use Rattle.item.specs.declared.Item.the-variants as records
 use Rattle.item.specs.declared.Record.{Record}
 use Rattle.records.specs.declared.ItemRead.{ItemRead}
 use Rattle.records.specs.declared.ItemRead.the-variants as items
-use Rattle.records.specs.declared.Layout.{Layout}
-use Rattle.records.specs.declared.Layout.the-variants as layouts
 use Rattle.records.specs.declared.Rest.{Rest}
 use Rattle.records.specs.declared.Rest.the-variants as rests
 use Rattle.records.specs.declared.RecordAnswer.{RecordAnswer}
@@ -54,19 +48,6 @@ itemIs (items.Got i next) = got (itemOf i) next
 itemIs items.RunsOut = runsOut
 itemIs (items.Refused r) = refused r
 
--- ---- an extension's data
-
-abbrev pub payloadIs : Layout → Payload
-payloadIs (layouts.Shaped shape) = shaped (fieldsIn shape)
-payloadIs layouts.Whole = whole
-payloadIs layouts.Unknown = unknown
-
--- the record in the code's fields: where all the data is one value, it is the text
-abbrev pub exContent : ℕ → Payload → Fields → Content Part
-exContent k (shaped fs) f = content (Named k) (valuesIn fs f)
-exContent k whole f = content (Named k) (bytes (f .text) ∷ [])
-exContent k unknown f = content Other (bytes (idPart (f .uuid)) ∷ bytes (f .text) ∷ [])
-
 -- ---- how the code reads the rest of a kind
 
 abbrev pub restCode : Kind → Rest
@@ -75,18 +56,19 @@ restCode kinds.Finish = rests.Shaped shapes.Nothing
 restCode kinds.TickSkip = rests.Dt
 restCode (kinds.PlayerNew c) = rests.Shaped shapes.IntInt
 restCode (kinds.PlayerOld c) = rests.Shaped shapes.Nothing
-restCode kinds.InputDiff = rests.Beside
-restCode kinds.InputNew = rests.Beside
+restCode kinds.InputDiff = rests.Input false
+restCode kinds.InputNew = rests.Input true
 restCode kinds.Message = rests.Shaped shapes.IntData
 restCode kinds.Join = rests.Shaped shapes.Int
 restCode kinds.Drop = rests.Shaped shapes.IntStr
-restCode kinds.ConsoleCommand = rests.Beside
+restCode kinds.ConsoleCommand = rests.Command
 restCode kinds.Ex = rests.Extension
 
 abbrev pub isShaped : Rest → Bool
 isShaped (rests.Shaped shape) = true
 isShaped rests.Dt = false
-isShaped rests.Beside = false
+isShaped (rests.Input new) = false
+isShaped rests.Command = false
 isShaped rests.Extension = false
 
 abbrev pub inputKind : Bool → Kind

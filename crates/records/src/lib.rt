@@ -1,20 +1,14 @@
 // Reading records (format/item.rs): the rest of a record of a kind, and the record call.
 ghost use mathlib.Core.Path.{_≡_};
 ghost use mathlib.Core.Bool.{true};
-ghost use Prim.Native.Nat.{_≤_};
-ghost use lib.IntN.{pos};
-ghost use lib.ListN.{length};
 ghost use Rattle.fields.specs.Views.{zeros};
-ghost use Rattle.shapes.specs.Shapes.{idPart, fieldsWith};
-ghost use Rattle.item.specs.Extensions.{payloadAt};
-ghost use Rattle.item.specs.Records.{ofPayload, readEx, readRest};
+ghost use Rattle.item.specs.Records.{readEx, readRest};
 ghost use Rattle.item.specs.Contents.{itemOf, fromFields, recordWith, noArgs};
 ghost use Rattle.item.specs.declared.Tag.the-variants.{Plain};
 ghost use Rattle.records.specs.Views.{
   itemIs,
   own,
-  payloadIs,
-  exContent,
+  readIs,
   restCode,
   isShaped,
   recordRead,
@@ -27,6 +21,7 @@ ghost use Rattle.records.specs.Views.{
   RecordAt,
   Called,
 };
+use extension_records::ExRead;
 use fields::Args;
 use fields::ArgsAnswer;
 use fields::InputAnswer;
@@ -50,173 +45,6 @@ pub enum ItemRead {
     Refused(Refusal),
 }
 
-// What stands in an extension's data.
-pub enum Layout {
-    Shaped(Shape),
-    Whole,
-    Unknown,
-}
-
-fn payload_of(which: usize) -> Layout
-    ensures { λ r. ⌜ payloadIs r ≡ payloadAt which ⌝ }
-{
-    match which {
-        0 => Layout::Whole,
-        1 => Layout::Shaped(Shape::IntIntStr),
-        2 => Layout::Shaped(Shape::IntIntStr),
-        3 => Layout::Shaped(Shape::Int),
-        4 => Layout::Shaped(Shape::IntUuidIntStr),
-        5 => Layout::Shaped(Shape::IntInt),
-        6 => Layout::Shaped(Shape::Int),
-        7 => Layout::Shaped(Shape::Int),
-        8 => Layout::Shaped(Shape::IntInt),
-        9 => Layout::Shaped(Shape::IntStr),
-        10 => Layout::Shaped(Shape::Int),
-        11 => Layout::Shaped(Shape::Int),
-        12 => Layout::Shaped(Shape::IntInt),
-        13 => Layout::Shaped(Shape::IntInt),
-        14 => Layout::Shaped(Shape::IntInt),
-        15 => Layout::Shaped(Shape::Int),
-        16 => Layout::Shaped(Shape::IntUuidStr),
-        17 => Layout::Shaped(Shape::IntInt),
-        18 => Layout::Shaped(Shape::Int),
-        19 => Layout::Shaped(Shape::IntUuidStr),
-        _ => Layout::Unknown,
-    }
-}
-
-// The record of an extension, of its fields; where all the data is one field, it is the text.
-fn ex_item(which: usize, f: Fields) -> Item
-    ensures { λ r. ⌜ itemOf r ≡ exContent which (payloadAt which) f ⌝ }
-{
-    let first = f.first;
-    let second = f.second;
-    let uuid = f.uuid;
-    let text = f.text;
-    match which {
-        0 => Item::Antibot { data: text },
-        1 => Item::AuthInit {
-            cid: first,
-            level: second,
-            identity: text,
-        },
-        2 => Item::AuthLogin {
-            cid: first,
-            level: second,
-            identity: text,
-        },
-        3 => Item::AuthLogout { cid: first },
-        4 => Item::Ddnetver {
-            cid: first,
-            connection_id: uuid,
-            ddnet_version: second,
-            ddnet_version_str: text,
-        },
-        5 => Item::DdnetverOld {
-            cid: first,
-            ddnet_version: second,
-        },
-        6 => Item::Joinver6 { cid: first },
-        7 => Item::Joinver7 { cid: first },
-        8 => Item::PlayerFinish {
-            cid: first,
-            time_ticks: second,
-        },
-        9 => Item::PlayerName {
-            cid: first,
-            name: text,
-        },
-        10 => Item::PlayerReady { cid: first },
-        11 => Item::PlayerRejoin { cid: first },
-        12 => Item::PlayerSwap {
-            cid1: first,
-            cid2: second,
-        },
-        13 => Item::PlayerTeam {
-            cid: first,
-            team: second,
-        },
-        14 => Item::TeamFinish {
-            team: first,
-            time_ticks: second,
-        },
-        15 => Item::TeamLoadFailure { team: first },
-        16 => Item::TeamLoadSuccess {
-            team: first,
-            save_uuid: uuid,
-            save: text,
-        },
-        17 => Item::TeamPractice {
-            team: first,
-            practice: second,
-        },
-        18 => Item::TeamSaveFailure { team: first },
-        19 => Item::TeamSaveSuccess {
-            team: first,
-            save_uuid: uuid,
-            save: text,
-        },
-        _ => Item::UnknownEx { uuid, data: text },
-    }
-}
-
-// The record of an extension whose data is load, which ends at next.
-fn read_payload(s: &[u8], which: usize, uuid: usize, load: Part, next: usize) -> ItemRead
-    requires { ⌜ next ≤ length (now s) ⌝ }
-    ensures { λ r. ⌜ itemIs r ≡ ofPayload (now (s .entry)) (idPart uuid) load which (payloadAt which) next ⌝ }
-{
-    let layout = payload_of(which);
-    match layout {
-        Layout::Shaped(shape) => {
-            let start = load.at;
-            let FieldsRead::Got { fields, next: _ } = shapes::read_shape(shape, &s[..next], start)
-            else {
-                return ItemRead::RunsOut;
-            };
-            ItemRead::Got {
-                item: ex_item(which, fields),
-                next,
-            }
-        }
-        Layout::Whole => ItemRead::Got {
-            item: ex_item(which, data_fields(uuid, load)),
-            next,
-        },
-        Layout::Unknown => ItemRead::Got {
-            item: ex_item(which, data_fields(uuid, load)),
-            next,
-        },
-    }
-}
-
-// An identifier and all the data.
-fn data_fields(uuid: usize, load: Part) -> Fields
-    ensures { λ r. ⌜ r ≡ fieldsWith (pos 0) (pos 0) uuid load ⌝ }
-{
-    Fields {
-        first: 0,
-        second: 0,
-        uuid,
-        text: load,
-    }
-}
-
-fn read_ex(s: &[u8], at: usize) -> ItemRead
-    ensures { λ r. ⌜ itemIs r ≡ readEx (now (s .entry)) at ⌝ }
-{
-    let PartRead::Got {
-        part: _,
-        next: after_id,
-    } = packer::read_raw(s, at, 16)
-    else {
-        return ItemRead::RunsOut;
-    };
-    let PartRead::Got { part: load, next } = packer::read_data(s, after_id) else {
-        return ItemRead::RunsOut;
-    };
-    read_payload(s, ids::find_id(s, at), at, load, next)
-}
-
 fn read_dt(s: &[u8], at: usize) -> ItemRead
     ensures { λ r. ⌜ itemIs r ≡ readRest Kind.TickSkip (now (s .entry)) at ⌝ }
 {
@@ -237,11 +65,23 @@ fn read_dt(s: &[u8], at: usize) -> ItemRead
     }
 }
 
-// How a record goes on after its kind: fields of a shape; dt; something that stands beside the record; an extension.
+// An extension at a place of the window.
+fn read_ex(s: &[u8], at: usize) -> ItemRead
+    ensures { λ r. ⌜ itemIs r ≡ readEx (now (s .entry)) at ⌝ }
+{
+    let ExRead::Got { item, next } = extension_records::read_ex(s, at) else {
+        return ItemRead::RunsOut;
+    };
+    ItemRead::Got { item, next }
+}
+
+// How a record goes on after its kind: fields of a shape; dt; an input (whether a new one) or a command, which have something beside
+// them; an extension.
 pub enum Rest {
     Shaped(Shape),
     Dt,
-    Beside,
+    Input(bool),
+    Command,
     Extension,
 }
 
@@ -254,12 +94,12 @@ fn rest_of(kind: Kind) -> Rest
         Kind::TickSkip => Rest::Dt,
         Kind::PlayerNew(_) => Rest::Shaped(Shape::IntInt),
         Kind::PlayerOld(_) => Rest::Shaped(Shape::Nothing),
-        Kind::InputDiff => Rest::Beside,
-        Kind::InputNew => Rest::Beside,
+        Kind::InputDiff => Rest::Input(false),
+        Kind::InputNew => Rest::Input(true),
         Kind::Message => Rest::Shaped(Shape::IntData),
         Kind::Join => Rest::Shaped(Shape::Int),
         Kind::Drop => Rest::Shaped(Shape::IntStr),
-        Kind::ConsoleCommand => Rest::Beside,
+        Kind::ConsoleCommand => Rest::Command,
         Kind::Ex => Rest::Extension,
     }
 }
@@ -435,27 +275,6 @@ fn read_console(s: &[u8], at: usize) -> RecordRead
     command(answer, item, args)
 }
 
-// A record that has something beside it.
-fn read_beside(kind: Kind, s: &[u8], at: usize) -> RecordRead
-    requires { ⌜ restCode kind ≡ Rest.Beside ⌝ }
-    ensures { λ r. ⌜ RestRead kind (now (s .entry)) at r ⌝ }
-{
-    match kind {
-        Kind::InputDiff => read_input(false, s, at),
-        Kind::InputNew => read_input(true, s, at),
-        Kind::ConsoleCommand => read_console(s, at),
-        Kind::PlayerDiff(_) => alone(RecordAnswer::RunsOut, Item::Finish),
-        Kind::Finish => alone(RecordAnswer::RunsOut, Item::Finish),
-        Kind::TickSkip => alone(RecordAnswer::RunsOut, Item::Finish),
-        Kind::PlayerNew(_) => alone(RecordAnswer::RunsOut, Item::Finish),
-        Kind::PlayerOld(_) => alone(RecordAnswer::RunsOut, Item::Finish),
-        Kind::Message => alone(RecordAnswer::RunsOut, Item::Finish),
-        Kind::Join => alone(RecordAnswer::RunsOut, Item::Finish),
-        Kind::Drop => alone(RecordAnswer::RunsOut, Item::Finish),
-        Kind::Ex => alone(RecordAnswer::RunsOut, Item::Finish),
-    }
-}
-
 fn whole(read: ItemRead) -> RecordRead
     ensures { λ r. ⌜ r ≡ wholeOf read ⌝ }
 {
@@ -474,8 +293,23 @@ pub fn read_rest(kind: Kind, s: &[u8], at: usize) -> RecordRead
     match rest {
         Rest::Shaped(shape) => whole(read_shaped(kind, shape, s, at)),
         Rest::Dt => whole(read_dt(s, at)),
-        Rest::Beside => read_beside(kind, s, at),
+        Rest::Input(new) => read_input(new, s, at),
+        Rest::Command => read_console(s, at),
         Rest::Extension => whole(read_ex(s, at)),
+    }
+}
+
+// A record that was read, without what stands beside it.
+fn item_of(read: RecordRead) -> ItemRead
+    ensures { λ r. ⌜ itemIs r ≡ own (readIs read) ⌝ }
+{
+    let answer = read.answer;
+    let value = read.value;
+    let item = value.item;
+    match answer {
+        RecordAnswer::Got(next) => ItemRead::Got { item, next },
+        RecordAnswer::RunsOut => ItemRead::RunsOut,
+        RecordAnswer::Refused(r) => ItemRead::Refused(r),
     }
 }
 
@@ -487,17 +321,8 @@ pub fn read_item(kind: Kind, s: &[u8], at: usize) -> ItemRead
     match rest {
         Rest::Shaped(shape) => read_shaped(kind, shape, s, at),
         Rest::Dt => read_dt(s, at),
-        Rest::Beside => {
-            let read = read_beside(kind, s, at);
-            let answer = read.answer;
-            let value = read.value;
-            let item = value.item;
-            match answer {
-                RecordAnswer::Got(next) => ItemRead::Got { item, next },
-                RecordAnswer::RunsOut => ItemRead::RunsOut,
-                RecordAnswer::Refused(r) => ItemRead::Refused(r),
-            }
-        }
+        Rest::Input(new) => item_of(read_input(new, s, at)),
+        Rest::Command => item_of(read_console(s, at)),
         Rest::Extension => read_ex(s, at),
     }
 }
