@@ -1,0 +1,2 @@
+pub mod Slim
+pub mod Rests
