@@ -11,7 +11,7 @@ use lib.IntN.{ℤ, pos}
 use borrow.Author.Tests.{eqb-true, eqb-false}
 use Rattle.num.proofs.Cases.{by-bool}
 use Rattle.fields.specs.Views.{zeros}
-use Rattle.fields.proofs.Strings.{and-both}
+use Rattle.fields.proofs.Answers.{and-both}
 use Rattle.state.specs.State.{
   places,
   puts,

@@ -2,7 +2,7 @@
 use mathlib.Core.Bool.{Bool}
 use mathlib.Core.List.{List}
 use Prim.Native.Nat.{ℕ}
-use Rattle.fields.proofs.Strings.{and-both}
+use Rattle.fields.proofs.Answers.{and-both}
 use Rattle.state.specs.State.{goodEntries, goodScalars, goodReader, emptyReader}
 use Rattle.state.specs.Reading.{Step, goodCall, memoryOf, readCall, readerAfter}
 use Rattle.state.specs.Laws.{OpenCallKeeps, Sound, EmptySound, ReadersStaySound}
