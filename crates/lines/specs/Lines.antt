@@ -1,11 +1,17 @@
 -- The lines that the replay program prints. Document 01, "The replay program". A text is a list of bytes.
 use Prim.Native.Nat.{ℕ, zero, suc, _+_, _/_, _%_}
+use mathlib.Core.Path.{_≡_}
 use mathlib.Core.Bool.{cond}
 use mathlib.Core.List.{List, [], _∷_, _++_}
-use lib.Dec.{ltb}
+use lib.Dec.{ltb, leb}
+use lib.ListN.{length}
 use lib.IntN.{ℤ, pos, negsuc}
 use Rattle.refusal.specs.Numbers.{numberOf}
 use Rattle.refusal.specs.declared.Refusal.{Refusal}
+use Rattle.refusal.specs.declared.Refusal.the-variants.{ShortTarget}
+use Rattle.varint.specs.Written.{written}
+use Rattle.varint.specs.declared.Wrote.{Wrote}
+use Rattle.varint.specs.declared.Wrote.the-variants as wrotes
 use Rattle.item.specs.Contents.{cidOf, tagNumber}
 use Rattle.item.specs.declared.Cid.{Cid}
 use Rattle.item.specs.declared.Cid.the-variants.{Of, NoCid}
@@ -21,17 +27,21 @@ digits zero n rest = rest
 digits (suc k) n rest = cond (ltb n 10) ((48 + n) ∷ rest) (digits k (n / 10) ((48 + n % 10) ∷ rest))
 
 -- a number of at most ten digits
-abbrev pub natural : ℕ → List ℕ
+unfoldable pub natural : ℕ → List ℕ
 natural n = digits 10 n []
 
 abbrev pub number : ℤ → List ℕ
 number (pos n) = natural n
 number (negsuc n) = 0x2D ∷ natural (suc n)
 
+-- a space and a number
+unfoldable pub spaced : ℤ → List ℕ
+spaced z = 0x20 ∷ number z
+
 -- numbers, a space before each
 unfoldable pub numbers : List ℤ → List ℕ
 numbers [] = []
-numbers (z ∷ zs) = 0x20 ∷ number z ++ numbers zs
+numbers (z ∷ zs) = spaced z ++ numbers zs
 
 -- ---- words
 
@@ -93,3 +103,17 @@ lastLine TooLong = tooLongWords ++ newline
 -- the longest line: `input`, eleven numbers of eleven bytes with a space before each, and the newline
 abbrev pub longest : ℕ
 longest = 138
+
+-- ---- a line into a target, at a place
+
+-- bytes that fit: the place past them, and the target with them in their place
+abbrev pub Puts : List ℕ → ℕ → List ℕ → ℕ → List ℕ → Type 0
+Puts xs at bs next ys = (next ≡ at + length bs) × (ys ≡ written xs at bs)
+
+-- the place past the line; refusal 9 where the longest line wouldn't fit
+abbrev pub lineAnswer : List ℕ → ℕ → List ℕ → Wrote
+lineAnswer xs at line = cond (leb (at + longest) (length xs)) (wrotes.Past (at + length line)) (wrotes.Refused ShortTarget)
+
+-- the target after it: unchanged where the longest line wouldn't fit
+abbrev pub lineTarget : List ℕ → ℕ → List ℕ → List ℕ
+lineTarget xs at line = cond (leb (at + longest) (length xs)) (written xs at line) xs
