@@ -627,6 +627,14 @@ fn print_signed(value: i32) {
     io::print_decimal(STDOUT_FILENO, num::bits(value) as u64);
 }
 
+fn wide(b: u8) -> u64 {
+    b as u64
+}
+
+fn size(b: u8) -> usize {
+    b as usize
+}
+
 // Bytes as lowercase hex digits; `-` for none.
 fn print_bytes(b: &[u8]) {
     io::write_all(STDOUT_FILENO, b" ");
@@ -635,7 +643,7 @@ fn print_bytes(b: &[u8]) {
     }
     let mut i: usize = 0;
     while i < b.len() {
-        io::print_hex(STDOUT_FILENO, b[i] as u64, 2);
+        io::print_hex(STDOUT_FILENO, wide(b[i]), 2);
         i += 1;
     }
 }
@@ -723,7 +731,8 @@ fn print_record(w: &[u8], used: usize, call: RecordCall) {
         print_bytes(packer::show(w, text));
     }
     if has(fields, 32) {
-        print_ten(value.input);
+        let input = value.input;
+        print_ten(input);
     }
     if has(fields, 64) {
         let parts = args.parts;
@@ -795,7 +804,7 @@ fn run(s: &[u8]) {
         }
         let version = version_of(s[at]);
         let start = at + 2;
-        let len = s[at + 1] as usize;
+        let len = size(s[at + 1]);
         if s.len() - start < len {
             return;
         }
