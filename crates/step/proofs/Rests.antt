@@ -21,16 +21,17 @@ use Rattle.shapes.specs.declared.Shape.the-variants.{IntInt}
 use Rattle.shapes.specs.declared.Fields.{Fields}
 use Rattle.shapes.specs.declared.FieldsRead.{FieldsRead}
 use Rattle.shapes.specs.declared.FieldsRead.the-variants as shapes
+use Rattle.item.specs.Said.{finish}
 use Rattle.item.specs.Records.{asContent, readRest}
 use Rattle.item.specs.declared.Kind.the-variants as kinds
 use Rattle.item.specs.declared.Tag.the-variants.{Plain}
 use Rattle.item.specs.declared.Cid.the-variants.{Of}
 use Rattle.state.specs.State.{Memory}
-use Rattle.state.specs.Reading.{Step, refusal, outOf, naming, raising, playerDiff, newPlayer, inputDiff, inputNew, tickSkip, first, apply, withRest}
+use Rattle.state.specs.Reading.{Step, step, refusal, outOf, closing, naming, raising, playerDiff, newPlayer, oldPlayer, inputDiff, inputNew, tickSkip, first, apply, withRest}
 use Rattle.state.specs.Views.{slimStep}
 use Rattle.state.specs.declared.Scalars.{Scalars}
 use Rattle.step.specs.Kinds.{pairKind, inputKind}
-use Rattle.step.proofs.Slim.{slim-refusal, slim-out, slim-diff, slim-new, slim-input-diff, slim-input-new, slim-skip}
+use Rattle.step.proofs.Slim.{slim-refusal, slim-out, slim-diff, slim-new, slim-old, slim-input-diff, slim-input-new, slim-skip}
 
 -- ---- numbers are got, or the bytes run out
 
@@ -80,6 +81,16 @@ module _ (s : Scalars) (m : Memory) (last : Bool) (w : List ℕ) (at : ℕ) wher
     pub pair-got : (f : Fields) (n : ℕ) → r ≡ shapes.Got f n
         → pairStep new cid (f .first) (f .second) n ≡ slimStep (withRest s m last (readRest (pairKind new cid) w at))
     pair-got f n e = pair-step new cid f n ∙ ap (pairOf new cid) (ap (viewed IntInt) (sym e) ∙ v) ∙ pair-rest new cid
+
+  pub old-rest : (cid : ℤ) → oldPlayer (naming cid s) m cid at ≡ slimStep (withRest s m last (readRest (kinds.PlayerOld cid) w at))
+  unfolding readRest apply
+  old-rest cid = sym (slim-old (naming cid s) m cid at)
+
+  -- ---- Finish
+
+  pub finish-rest : step (finish at) (closing s) m ≡ slimStep (withRest s m last (readRest kinds.Finish w at))
+  unfolding readRest apply
+  finish-rest = refl
 
   -- ---- TickSkip
 
