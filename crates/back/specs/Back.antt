@@ -39,13 +39,11 @@ presentAt e c x y = present e c && (same (xOf e c) x && same (yOf e c) y)
 
 -- ---- an event taken off the entries, inside tick t
 
-abbrev pub unNew : ℤ → Entries → ℤ → ℤ → ℤ → Back
-unNew t e (negsuc c) x y = refused NotLast
-unNew t e (pos c) x y = onlyIf (presentAt e c x y) (board (In t) (withPlayer e c 0 (pos 0) (pos 0)))
-
-abbrev pub unChange : ℤ → Entries → ℤ → ℤ → ℤ → ℤ → ℤ → Back
-unChange t e (negsuc c) x y old-x old-y = refused NotLast
-unChange t e (pos c) x y old-x old-y = onlyIf (presentAt e c x y) (board (In t) (withPlayer e c 1 old-x old-y))
+-- a client present at x, y, whose entry was another: none (PlayerNew), or at the old position (PlayerChange)
+abbrev pub unPresent : ℤ → Entries → ℤ → ℤ → ℤ → ℕ → ℤ → ℤ → Back
+unPresent t e (negsuc c) x y mark old-x old-y = refused NotLast
+unPresent t e (pos c) x y mark old-x old-y =
+    onlyIf (presentAt e c x y) (board (In t) (withPlayer e c mark old-x old-y))
 
 abbrev pub unOld : ℤ → Entries → ℤ → ℤ → ℤ → Back
 unOld t e (negsuc c) x y = refused NotLast
@@ -68,9 +66,9 @@ takeOff (tickStart u) ten former (In t) e = onlyIf (same t u) (board NoTick e)
 takeOff (tickEnd u) ten former NoTick e = onlyIf (nonNeg u) (board (In u) e)
 takeOff (tickEnd u) ten former (In t) e = refused NotLast
 takeOff (playerNew c x y) ten former NoTick e = refused NotLast
-takeOff (playerNew c x y) ten former (In t) e = unNew t e c x y
+takeOff (playerNew c x y) ten former (In t) e = unPresent t e c x y 0 (pos 0) (pos 0)
 takeOff (playerChange c x y old-x old-y) ten former NoTick e = refused NotLast
-takeOff (playerChange c x y old-x old-y) ten former (In t) e = unChange t e c x y old-x old-y
+takeOff (playerChange c x y old-x old-y) ten former (In t) e = unPresent t e c x y 1 old-x old-y
 takeOff (playerOld c x y) ten former NoTick e = refused NotLast
 takeOff (playerOld c x y) ten former (In t) e = unOld t e c x y
 takeOff (input c had) ten former NoTick e = refused NotLast
