@@ -25,7 +25,7 @@ use Rattle.records.specs.declared.RecordAnswer.the-variants as answers
 
 -- ---- n numbers are got, or the bytes run out
 
-abbrev Numbers : ℕ → Reading (List (Value Part)) → Type 0
+abbrev pub Numbers : ℕ → Reading (List (Value Part)) → Type 0
 Numbers n (got vs next) = (map num (numbers vs) ≡ vs) × (length (numbers vs) ≡ n)
 Numbers n runsOut = Unit
 Numbers n (refused r) = ⊥
@@ -41,7 +41,7 @@ after : (n : ℕ) (s : List ℕ) → ((at : ℕ) → Numbers n (readFields (repl
 after n s h (ints.Got z next r) = one-more n z (readFields (replicate n int) s next) (h next)
 after n s h ints.RunsOut = tt
 
-all-numbers : (n : ℕ) (s : List ℕ) (at : ℕ) → Numbers n (readFields (replicate n int) s at)
+pub all-numbers : (n : ℕ) (s : List ℕ) (at : ℕ) → Numbers n (readFields (replicate n int) s at)
 unfolding numbers
 all-numbers zero s at = (refl, refl)
 all-numbers (suc n) s at = after n s (all-numbers n s) (readInt s at)

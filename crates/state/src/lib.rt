@@ -1,7 +1,7 @@
 // The types of the reader, and the steps of its scalars (raw.rs, Reader).
 ghost use mathlib.Core.Path.{_≡_};
 ghost use Prim.Native.Nat.{_<_};
-ghost use Rattle.state.specs.State.{Memory, larger};
+ghost use Rattle.state.specs.State.{Memory, larger, emptyReader};
 ghost use Rattle.state.specs.Reading.{
   closing,
   raisedTo,
@@ -53,6 +53,32 @@ pub struct Scalars {
 pub struct Reader {
     pub scalars: Scalars,
     pub entries: Entries,
+}
+
+impl Reader {
+    // Tick 0, outside a tick, no remembered client, no pending kind, largest client -1, nobody present.
+    pub fn empty(version: Version) -> Reader
+        ensures { λ r. ⌜ r ≡ emptyReader version ⌝ }
+    {
+        Reader {
+            scalars: Scalars {
+                version,
+                tick: 0,
+                inside: false,
+                remembered: Cid::NoCid,
+                largest: -1,
+                pending: Pending::NoKind,
+                closed: false,
+            },
+            entries: Entries {
+                marks: [0; 128],
+                xs: [0; 128],
+                ys: [0; 128],
+                held: [0; 128],
+                inputs: [0; 1280],
+            },
+        }
+    }
 }
 
 // What a reading call finds. The ten numbers of an input and the former ten stand beside it, and the arguments of a command.

@@ -1,9 +1,9 @@
 -- The rest of a record and what it changes, from what the code has read. Assumes nothing.
-use Prim.Native.Nat.{ℕ, zero, suc}
+use Prim.Native.Nat.{ℕ}
 use mathlib.Core.Path.{_≡_, refl, sym, ap, _∙_}
 use mathlib.Core.Bool.{Bool, true, false}
 use mathlib.Core.List.{List, [], _∷_}
-use lib.ListN.{drop, replicate}
+use lib.ListN.{drop}
 use lib.IntN.{ℤ, pos, negsuc}
 use Rattle.refusal.specs.declared.Refusal.the-variants.{NegativeDt}
 use Rattle.varint.specs.Integers.{readInt}
@@ -11,7 +11,7 @@ use Rattle.varint.specs.declared.Remark.{Remark}
 use Rattle.varint.specs.declared.IntRead.{IntRead}
 use Rattle.varint.specs.declared.IntRead.the-variants as ints
 use Rattle.packer.specs.declared.Part.{Part}
-use Rattle.fields.specs.Fields.{int, Value, num, Reading, got, runsOut, refused, intField, dtField, push, andThen, readFields}
+use Rattle.fields.specs.Fields.{Value, Reading, got, runsOut, refused, dtField, andThen, readFields}
 use Rattle.fields.specs.Views.{numbers, inputFields, inputRead}
 use Rattle.fields.specs.declared.InputAnswer.{InputAnswer}
 use Rattle.fields.specs.declared.InputAnswer.the-variants as inputs
@@ -26,33 +26,13 @@ use Rattle.item.specs.Records.{asContent, readRest}
 use Rattle.item.specs.declared.Kind.the-variants as kinds
 use Rattle.item.specs.declared.Tag.the-variants.{Plain}
 use Rattle.item.specs.declared.Cid.the-variants.{Of}
+use Rattle.records.proofs.Inputs.{Numbers, all-numbers}
 use Rattle.state.specs.State.{Memory}
 use Rattle.state.specs.Reading.{Step, step, refusal, outOf, closing, naming, raising, playerDiff, newPlayer, oldPlayer, inputDiff, inputNew, tickSkip, first, apply, withRest}
 use Rattle.state.specs.Views.{slimStep}
 use Rattle.state.specs.declared.Scalars.{Scalars}
 use Rattle.step.specs.Kinds.{pairKind, inputKind}
 use Rattle.step.proofs.Slim.{slim-refusal, slim-out, slim-diff, slim-new, slim-old, slim-input-diff, slim-input-new, slim-skip}
-
--- ---- numbers are got, or the bytes run out
-
-abbrev Calm : Reading (List (Value Part)) → Type 0
-Calm (got vs n) = Unit
-Calm runsOut = Unit
-Calm (refused r) = ⊥
-
-calm-push : (z : ℤ) (x : Reading (List (Value Part))) → Calm x → Calm (push (num z) x)
-calm-push z (got vs n) h = tt
-calm-push z runsOut h = tt
-calm-push z (refused r) h = h
-
-calm-after : (k : ℕ) (w : List ℕ) → ((at : ℕ) → Calm (readFields (replicate k int) w at)) → (i : IntRead)
-    → Calm (andThen (intField i) (readFields (replicate k int) w))
-calm-after k w h (ints.Got z n r) = calm-push z (readFields (replicate k int) w n) (h n)
-calm-after k w h ints.RunsOut = tt
-
-calm-ints : (k : ℕ) (w : List ℕ) (at : ℕ) → Calm (readFields (replicate k int) w at)
-calm-ints zero w at = tt
-calm-ints (suc k) w at = calm-after k w (calm-ints k w) (readInt w at)
 
 module _ (s : Scalars) (m : Memory) (last : Bool) (w : List ℕ) (at : ℕ) where
   -- ---- players
@@ -127,7 +107,7 @@ module _ (s : Scalars) (m : Memory) (last : Bool) (w : List ℕ) (at : ℕ) wher
   abbrev inputOf : Bool → Reading (List (Value Part)) → Step
   inputOf new x = slimStep (withRest s m last (asContent (Plain (inputKind new)) x))
 
-  input-step : (new : Bool) (x : Reading (List (Value Part))) → Calm x → inputAfter new (inputRead x .answer) (inputRead x .input) ≡ inputOf new x
+  input-step : (new : Bool) (x : Reading (List (Value Part))) → Numbers 11 x → inputAfter new (inputRead x .answer) (inputRead x .input) ≡ inputOf new x
   unfolding apply
   input-step true (got vs n) h = sym (slim-input-new (raising (Of (first (numbers vs))) s) m (first (numbers vs)) (drop 1 (numbers vs)) n)
   input-step false (got vs n) h = sym (slim-input-diff (raising (Of (first (numbers vs))) s) m (first (numbers vs)) (drop 1 (numbers vs)) n)
@@ -141,4 +121,4 @@ module _ (s : Scalars) (m : Memory) (last : Bool) (w : List ℕ) (at : ℕ) wher
 
   pub input-rest : (new : Bool) (i : InputRead) (a : InputAnswer) → i ≡ inputRead (readFields inputFields w at) → i .answer ≡ a
       → inputAfter new a (i .input) ≡ slimStep (withRest s m last (readRest (inputKind new) w at))
-  input-rest new i a e f = rw (← f, e) (input-step new (readFields inputFields w at) (calm-ints 11 w at) ∙ input-is new)
+  input-rest new i a e f = rw (← f, e) (input-step new (readFields inputFields w at) (all-numbers 11 w at) ∙ input-is new)
