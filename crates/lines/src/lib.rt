@@ -1,9 +1,11 @@
 // The lines of the replay program, written into a lent buffer at a place.
 ghost use mathlib.Core.Path.{_≡_};
 ghost use Prim.Native.Nat.{_+_, _≤_};
+ghost use mathlib.Core.List.{_++_};
 ghost use lib.ListN.{length};
-ghost use Rattle.lines.specs.Lines.{natural, Puts};
+ghost use Rattle.lines.specs.Lines.{natural, spaced, numbers, newline, Puts};
 use refusal::Refusal;
+use varint::Wrote;
 
 // How a replay ends.
 pub enum Ending {
@@ -40,4 +42,42 @@ fn put_natural(n: u32, out: &mut [u8], at: usize) -> usize
     }
     out[at] = 48 + rest as u8;
     end
+}
+
+// A space and a number.
+fn put_spaced(value: i32, out: &mut [u8], at: usize) -> usize
+    requires { ⌜ at + length (spaced value) ≤ length (now out) ⌝ }
+    ensures { λ r. ⌜ Puts (now (out .entry)) at (spaced value) r (now (out .exit)) ⌝ }
+{
+    out[at] = b' ';
+    if value < 0 {
+        out[at + 1] = b'-';
+        return put_natural((!value) as u32 + 1, out, at + 2);
+    }
+    put_natural(value as u32, out, at + 1)
+}
+
+// Numbers, a space before each.
+fn put_numbers(ns: &[i32], out: &mut [u8], at: usize) -> usize
+    requires { ⌜ at + length (numbers (now ns)) ≤ length (now out) ⌝ }
+    ensures { λ r. ⌜ Puts (now (out .entry)) at (numbers (now (ns .entry))) r (now (out .exit)) ⌝ }
+{
+    let mut i = 0;
+    let mut next = at;
+    while i < ns.len() {
+        next = put_spaced(ns[i], out, next);
+        i += 1;
+    }
+    next
+}
+
+// A word.
+fn put_word(word: &[u8], out: &mut [u8], at: usize) -> usize
+    requires { ⌜ at + length (now word) ≤ length (now out) ⌝ }
+    ensures { λ r. ⌜ Puts (now (out .entry)) at (now (word .entry)) r (now (out .exit)) ⌝ }
+{
+    let Wrote::Past(next) = packer::write_raw(word, out, at) else {
+        return at;
+    };
+    next
 }
