@@ -1,30 +1,19 @@
 -- `extension_records::ex_item` meets its contract: each arm as the table has it. Assumes nothing.
 use Prim.Native.Nat.{ℕ}
-use mathlib.Core.Path.{_≡_}
+use mathlib.Core.Path.{_≡_, _∙_, ap}
 use borrow.Author.Needs.{needs}
-use mir.Syntax.{w32}
-use mir.Val.{toZ, ofZ}
-use Rattle.shapes.specs.Shapes.{fieldsWith}
-use Rattle.shapes.specs.declared.Fields.{Fields}
 use Rattle.item.specs.Extensions.{extensions, payloadAt}
 use Rattle.extension_records.specs.Views.{exContent}
+use Rattle.extension_records.proofs.Held.{held, held-same}
 use Rattle.extension_records.proofs.Keys.{outside}
 use Rattle.extension_records.proofs.Payloads.{none}
 use Rattle.extension_records.proofs.ex_item.Statement.{statement}
 use Rattle.extension_records.proofs.ex_item.Tie as tie
 
--- the fields in the code's locals, which hold bits
-abbrev held : Fields → Fields
-held f = fieldsWith (toZ w32 (ofZ w32 (f .first))) (toZ w32 (ofZ w32 (f .second))) (f .uuid) (f .text)
-
 at : (a : tie.After-text) (k : ℕ) → a .before .before .before .args .which ≡ k
     → exContent k (payloadAt k) (held (a .before .before .before .args .f))
     ≡ exContent (a .before .before .before .args .which) (payloadAt (a .before .before .before .args .which)) (a .before .before .before .args .f)
-at a k e =
-    let f = a .before .before .before .args .f in
-    let u : toZ w32 (ofZ w32 (f .first)) ≡ f .first = search needs in
-    let v : toZ w32 (ofZ w32 (f .second)) ≡ f .second = search needs in
-    rw (u, v, e)
+at a k e = ap (exContent k (payloadAt k)) (held-same (a .before .before .before .args .f) (search needs) (search needs)) ∙ rw e
 
 returns-21 : tie.Need-returns-21
 returns-21 c = let k = c .before .before .before .before .args .which in rw (none k (outside 20 k (c .match .rest)))

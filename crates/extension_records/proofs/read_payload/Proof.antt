@@ -14,9 +14,7 @@ use Rattle.extension_records.proofs.read_payload.Statement.{statement}
 use Rattle.extension_records.proofs.read_payload.Tie as tie
 
 slice-aggregate-read-shape : tie.Need-slice-aggregate-read-shape
-slice-aggregate-read-shape c =
-    let a = c .before .before .before .before .before .before in
-    sym (length-take-le (a .args .next) (a .args .s .now) (a .pre))
+slice-aggregate-read-shape c = sym (length-take-le _ (c .before .before .before .before .before .before .args .s .now) (search needs))
 
 returns : tie.Need-returns
 returns c =

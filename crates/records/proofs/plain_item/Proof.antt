@@ -5,20 +5,15 @@ use lib.IntN.{ℤ}
 use mir.Syntax.{w32}
 use mir.Val.{SFits, toZ, ofZ}
 use mir.Facts.{toZ-ofZ}
-use Rattle.shapes.specs.Shapes.{fieldsWith}
-use Rattle.shapes.specs.declared.Fields.{Fields}
 use Rattle.item.specs.Contents.{fromFields}
 use Rattle.item.specs.declared.Kind.{Kind}
 use Rattle.item.specs.declared.Tag.the-variants.{Plain}
+use Rattle.extension_records.proofs.Held.{held, held-same}
 use Rattle.records.specs.Views.{restCode, isShaped}
 use Rattle.records.proofs.Rests.{not-shaped}
 use borrow.Author.Needs.{needs}
 use Rattle.records.proofs.plain_item.Statement.{statement}
 use Rattle.records.proofs.plain_item.Tie as tie
-
--- the fields in the code's locals, which hold bits
-abbrev held : Fields → Fields
-held f = fieldsWith (toZ w32 (ofZ w32 (f .first))) (toZ w32 (ofZ w32 (f .second))) (f .uuid) (f .text)
 
 told : (z : ℤ) → SFits w32 z → toZ w32 (ofZ w32 z) ≡ z
 told z f = toZ-ofZ {w = w32} {z = z} f
@@ -26,11 +21,7 @@ told z f = toZ-ofZ {w = w32} {z = z} f
 at : (a : tie.After-text) (k : Kind) → a .before .before .before .args .kind ≡ k
     → fromFields (Plain k) (held (a .before .before .before .args .f))
     ≡ fromFields (Plain (a .before .before .before .args .kind)) (a .before .before .before .args .f)
-at a k e =
-    let f = a .before .before .before .args .f in
-    let u : toZ w32 (ofZ w32 (f .first)) ≡ f .first = search needs in
-    let v : toZ w32 (ofZ w32 (f .second)) ≡ f .second = search needs in
-    rw (u, v, e)
+at a k e = ap (fromFields (Plain k)) (held-same (a .before .before .before .args .f) (search needs) (search needs)) ∙ rw e
 
 -- a kind that has no shape
 never : {C : Type 0} (a : tie.After-text) (k : Kind) → a .before .before .before .args .kind ≡ k → isShaped (restCode k) ≡ false → C
