@@ -1,5 +1,5 @@
 -- The lines: how long they are, and from which parts they are put. Assumes nothing.
-use Prim.Native.Nat.{ℕ, suc, _+_, _*_, _≤_}
+use Prim.Native.Nat.{ℕ, _+_, _*_, _≤_}
 use mathlib.Core.Path.{_≡_, sym, _∙_, ap}
 use mathlib.Core.List.{List, [], _∷_, _++_, append-assoc}
 use native.Mathlib.Omega.{arith}
@@ -8,7 +8,7 @@ use lib.IntN.{ℤ}
 use borrow.Author.Tests.{le-leb, lt-leb}
 use Rattle.refusal.specs.declared.Refusal.the-variants.{ShortTarget}
 use Rattle.varint.specs.declared.Wrote.the-variants.{Past, Refused}
-use Rattle.packer.proofs.Joined.{Put}
+use Rattle.packer.proofs.Joined.{Put, first-fits, next-fits, two-puts}
 use Rattle.packer.specs.declared.Part.{Part}
 use Rattle.item.specs.Records.{Content}
 use Rattle.item.specs.Contents.{cidOf, tagNumber}
@@ -47,30 +47,61 @@ line-fits word ns at size h k = omega (arith, length-append word (numbers ns ++ 
 pub same-text : (xs : List ℕ) (at : ℕ) (a b : List ℕ) → a ≡ b → (next : ℕ) (ys : List ℕ) → Put xs at a next ys → Put xs at b next ys
 same-text xs at a b e next ys p = rw e at p
 
+-- a word, a number and the rest
+module _ (xs : List ℕ) (at : ℕ) (word : List ℕ) (z : ℤ) (rest : List ℕ) (fits : at + length ((word ++ spaced z) ++ rest) ≤ length xs) where
+  head-fits : at + length (word ++ spaced z) ≤ length xs
+  head-fits = first-fits xs at (word ++ spaced z) rest fits
+
+  module _ (n : ℕ) (ys : List ℕ) (p : Put xs at word n ys) where
+    pub number-fits : n + length (spaced z) ≤ length ys
+    number-fits = next-fits xs at word (spaced z) head-fits n ys p
+
+    module _ (m : ℕ) (zs : List ℕ) (q : Put ys n (spaced z) m zs) where
+      head : Put xs at (word ++ spaced z) m zs
+      head = two-puts xs at word (spaced z) head-fits n ys p m zs q
+
+      pub rest-fits : m + length rest ≤ length zs
+      rest-fits = next-fits xs at (word ++ spaced z) rest fits m zs head
+
+      pub rest-put : (text : List ℕ) → (word ++ spaced z) ++ rest ≡ text → (next : ℕ) (us : List ℕ) → Put zs m rest next us → Put xs at text next us
+      rest-put text e next us r =
+          same-text xs at _ text e next us (two-puts xs at (word ++ spaced z) rest fits m zs head next us r)
+
+-- an input
 module _ (z : ℤ) (ten : List ℤ) where
   pub input-parts : (inputWord ++ spaced z) ++ (numbers ten ++ newline) ≡ inputWord ++ (numbers (z ∷ ten) ++ newline)
   unfolding numbers
   input-parts = simp append-assoc
 
-  pub input-fits : (at size : ℕ) → at + longest ≤ size → length ten ≡ 10 → at + length ((inputWord ++ spaced z) ++ (numbers ten ++ newline)) ≤ size
+  pub input-fits : (at size : ℕ) → at + longest ≤ size → length ten ≡ 10
+      → at + length ((inputWord ++ spaced z) ++ (numbers ten ++ newline)) ≤ size
   input-fits at size h e = omega (arith, length-append (spaced z) (numbers ten ++ newline), spaced-le z, end-le ten)
+
+abbrev pub noClient : List ℕ
+noClient = 0x20 ∷ 0x2D ∷ 0x0A ∷ []
+
+pub no-client-fits : (k : ℤ) (at size : ℕ) → at + longest ≤ size → at + length ((recordWord ++ spaced k) ++ noClient) ≤ size
+no-client-fits k at size h = omega (arith, length-append (spaced k) noClient, spaced-le k)
 
 -- a record with a client, and with none
 module _ (k : ℤ) (r : Content Part) (e : k ≡ tagNumber (r .tag)) where
-  with-number : (a : List ℕ) → recordWord ++ (numbers (k ∷ []) ++ a) ≡ recordWord ++ (numbers (tagNumber (r .tag) ∷ []) ++ a)
-  with-number a = ap (λ (n : ℤ). recordWord ++ (numbers (n ∷ []) ++ a)) e
+  told : (i : Cid) → cidOf r ≡ i → recordWord ++ (numbers (k ∷ []) ++ (client i ++ newline)) ≡ lineOf (other r) []
+  told i f =
+      ap (λ (n : ℤ). recordWord ++ (numbers (n ∷ []) ++ (client i ++ newline))) e
+      ∙ ap (λ (i : Cid). recordWord ++ (numbers (tagNumber (r .tag) ∷ []) ++ (client i ++ newline))) (sym f)
 
   pub client-parts : (z : ℤ) → cidOf r ≡ Of z → recordWord ++ (numbers (k ∷ z ∷ []) ++ newline) ≡ lineOf (other r) []
   unfolding numbers
   client-parts z f =
-      let g : recordWord ++ (numbers (k ∷ z ∷ []) ++ newline) ≡ recordWord ++ (numbers (k ∷ []) ++ (client (Of z) ++ newline)) = simp append-assoc in
-      g ∙ with-number (client (Of z) ++ newline) ∙ ap (λ (i : Cid). recordWord ++ (numbers (tagNumber (r .tag) ∷ []) ++ (client i ++ newline))) (sym f)
+      let g : recordWord ++ (numbers (k ∷ z ∷ []) ++ newline) ≡ recordWord ++ (numbers (k ∷ []) ++ (client (Of z) ++ newline)) =
+      simp append-assoc in
+      g ∙ told (Of z) f
 
-  pub no-client-parts : cidOf r ≡ NoCid → (recordWord ++ spaced k) ++ (0x20 ∷ 0x2D ∷ 0x0A ∷ []) ≡ lineOf (other r) []
+  pub no-client-parts : cidOf r ≡ NoCid → (recordWord ++ spaced k) ++ noClient ≡ lineOf (other r) []
   unfolding numbers
   no-client-parts f =
-      let g : (recordWord ++ spaced k) ++ (0x20 ∷ 0x2D ∷ 0x0A ∷ []) ≡ recordWord ++ (numbers (k ∷ []) ++ (client NoCid ++ newline)) = simp append-assoc in
-      g ∙ with-number (client NoCid ++ newline) ∙ ap (λ (i : Cid). recordWord ++ (numbers (tagNumber (r .tag) ∷ []) ++ (client i ++ newline))) (sym f)
+      let g : (recordWord ++ spaced k) ++ noClient ≡ recordWord ++ (numbers (k ∷ []) ++ (client NoCid ++ newline)) = simp append-assoc in
+      g ∙ told NoCid f
 
 -- ---- what the public calls answer
 

@@ -7,7 +7,6 @@ use lib.Dec.{ltb, leb}
 use lib.ListN.{length}
 use lib.IntN.{ℤ, pos, negsuc}
 use Rattle.refusal.specs.Numbers.{numberOf}
-use Rattle.refusal.specs.declared.Refusal.{Refusal}
 use Rattle.refusal.specs.declared.Refusal.the-variants.{ShortTarget}
 use Rattle.varint.specs.Written.{written}
 use Rattle.varint.specs.declared.Wrote.{Wrote}

@@ -1,13 +1,21 @@
 -- `lines::put_event` meets its contract. Assumes nothing.
+use Prim.Native.Nat.{ℕ, _+_, _*_, _≤_}
 use mathlib.Core.Path.{_≡_}
+use mathlib.Core.List.{List, _++_}
 use native.Mathlib.Omega.{arith}
 use borrow.Author.Needs.{needs}
+use lib.ListN.{length}
+use lib.IntN.{ℤ}
 use mir.Syntax.{w32}
 use mir.Val.{toZ, ofZ}
-use Rattle.lines.specs.Lines.{startWord, endWord, newWord, changeWord, oldWord}
+use Rattle.lines.specs.Lines.{numbers, newline, startWord, endWord, newWord, changeWord, oldWord}
 use Rattle.lines.proofs.Texts.{line-fits}
 use Rattle.lines.proofs.put_event.Statement.{statement}
 use Rattle.lines.proofs.put_event.Tie as tie
+
+room : (word : List ℕ) (ns : List ℤ) (c : tie.Start) → length word + 12 * length ns ≤ 137
+    → c .args .at + length (word ++ (numbers ns ++ newline)) ≤ length (c .args .out .now)
+room word ns c k = line-fits word ns (c .args .at) (length (c .args .out .now)) (c .pre) k
 
 -- numbers are read back from their bits
 returns : tie.Need-returns
@@ -62,15 +70,15 @@ put-event-spec =
     tie.close
     (tie.spec
     (λ c. search needs) (λ c. search needs) (λ c. search needs)
-    (λ c κs. line-fits startWord _ (c .before .before .before .before .before .before .before .args .at) _ (c .before .before .before .before .before .before .before .pre) (omega arith))
+    (λ c κs. room startWord _ (c .before .before .before .before .before .before .before) (omega arith))
     (λ c. search needs) (λ c. search needs) (λ c. search needs)
-    (λ c κs. line-fits endWord _ (c .before .before .before .before .before .before .before .args .at) _ (c .before .before .before .before .before .before .before .pre) (omega arith))
+    (λ c κs. room endWord _ (c .before .before .before .before .before .before .before) (omega arith))
     (λ c. search needs) (λ c. search needs) (λ c. search needs)
-    (λ c κs. line-fits newWord _ (c .before .before .before .before .before .before .before .args .at) _ (c .before .before .before .before .before .before .before .pre) (omega arith))
+    (λ c κs. room newWord _ (c .before .before .before .before .before .before .before) (omega arith))
     (λ c. search needs) (λ c. search needs) (λ c. search needs)
-    (λ c κs. line-fits changeWord _ (c .before .before .before .before .before .before .before .args .at) _ (c .before .before .before .before .before .before .before .pre) (omega arith))
+    (λ c κs. room changeWord _ (c .before .before .before .before .before .before .before) (omega arith))
     (λ c. search needs) (λ c. search needs) (λ c. search needs)
-    (λ c κs. line-fits oldWord _ (c .before .before .before .before .before .before .before .args .at) _ (c .before .before .before .before .before .before .before .pre) (omega arith))
+    (λ c κs. room oldWord _ (c .before .before .before .before .before .before .before) (omega arith))
     (λ c. search needs) (λ c κs. search needs) (λ c. search needs) (λ c κs. search needs)
     (λ c. search needs) returns
     (λ c. search needs) returns-2

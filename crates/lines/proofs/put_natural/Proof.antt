@@ -1,8 +1,7 @@
 -- `lines::put_natural` meets its contract. The loop's invariant: the digits of the rest, put at the number's place, make of the target
 -- what all of them make of it. Assumes nothing.
 use Prim.Native.Nat.{_+_, _-_, _≤_, _<_}
-use mathlib.Core.Path.{_≡_, refl, sym, _∙_, ap}
-use mathlib.Core.List.{[], _∷_}
+use mathlib.Core.Path.{_≡_, refl, _∙_, ap}
 use native.Mathlib.Omega.{arith}
 use borrow.Author.Needs.{needs}
 use lib.ListN.{length, length-set}
@@ -27,7 +26,8 @@ loop-holds : tie.Need-loop-holds Inv-loop μ-loop
 loop-holds c = (refl, (omega arith, (omega arith, (omega arith, refl))))
 
 -- the place of the rest's last digit
-last-place : (c : tie.In-loop Inv-loop μ-loop) → (c .before .before .before .before .args .at + length (natural (c .before .loop .rest)) ≡ c .before .loop .i) × (1 ≤ length (natural (c .before .loop .rest)))
+last-place : (c : tie.In-loop Inv-loop μ-loop) → let l = c .before .loop in
+    (c .before .before .before .before .args .at + length (natural (l .rest)) ≡ l .i) × (1 ≤ length (natural (l .rest)))
 last-place c =
     let l = c .before .loop in
     (omega arith, omega (arith, natural-longer (l .rest) (c .loop-test .taken) (l .inv .1 .0)))

@@ -1,7 +1,7 @@
 -- `lines::put_numbers` meets its contract. The loop's invariant: the numbers still to come, put at the next place, make of the target what
 -- all of them make of it. Assumes nothing.
 use Prim.Native.Nat.{_+_, _-_, _≤_}
-use mathlib.Core.Path.{_≡_, refl, sym, _∙_, ap}
+use mathlib.Core.Path.{_≡_, refl, _∙_}
 use mathlib.Core.List.{[]}
 use native.Mathlib.Omega.{arith}
 use borrow.Author.Needs.{needs}
@@ -28,13 +28,15 @@ abbrev μ-loop : tie.MeasureT-loop
 μ-loop ns out₀ at i₀ next₀ out i next = length ns - i
 
 -- the number that is put
-value : (c : tie.After-put-spaced-arg Inv-loop μ-loop) → let z = getD (c .before .before .before .before .args .ns .now) (c .before .before .loop .i) (pos 0) in toZ w32 (ofZ w32 z) ≡ z
+value : (c : tie.After-put-spaced-arg Inv-loop μ-loop)
+    → let z = getD (c .before .before .before .before .args .ns .now) (c .before .before .loop .i) (pos 0) in toZ w32 (ofZ w32 z) ≡ z
 value c =
     let z = getD (c .before .before .before .before .args .ns .now) (c .before .before .loop .i) (pos 0) in
     element z (c .put-spaced-arg .given)
 
 -- what is still to come fits
-left-fits : (c : tie.In-loop Inv-loop μ-loop) → let l = c .before .loop in l .next + length (numbers (drop (l .i) (c .before .before .before .args .ns .now))) ≤ length (l .out)
+left-fits : (c : tie.In-loop Inv-loop μ-loop)
+    → let l = c .before .loop in l .next + length (numbers (drop (l .i) (c .before .before .before .args .ns .now))) ≤ length (l .out)
 left-fits c = omega (arith, c .before .loop .inv .1 .1 .0)
 
 put-spaced-requires : tie.Need-put-spaced-requires Inv-loop μ-loop
@@ -43,19 +45,24 @@ put-spaced-requires c κs =
     let l = t .before .loop in
     rw (value (c .before)) (one-fits (t .before .before .before .args .ns .now) (l .i) (t .loop-test .taken) (l .out) (l .next) (left-fits t))
 
+-- and is put
+one-put : (c : tie.After-put-spaced Inv-loop μ-loop) → let t = c .before .before .before in let l = t .before .loop in
+    Put (l .out) (l .next) (spaced (getD (t .before .before .before .args .ns .now) (l .i) (pos 0))) (c .put-spaced .result) (c .put-spaced .last .1 .0)
+one-put c = rw (value (c .before .before)) at (c .put-spaced .ensures)
+
 loop-again : tie.Need-loop-again Inv-loop μ-loop
 loop-again c =
-    let g = c .before .before .before .before in
-    let t = g .before in
+    let t = c .before .before .before .before .before in
     let l = t .before .loop in
     let ns = t .before .before .before .args .ns .now in
-    let p : Put (l .out) (l .next) (spaced (getD ns (l .i) (pos 0))) (c .before .before .put-spaced .result) (c .before .before .put-spaced .last .1 .0) = rw (value g) at (c .before .before .put-spaced .ensures) in (
-      same-size ns (l .i) (t .loop-test .taken) (l .out) (l .next) (left-fits t) _ _ p ∙ l .inv .0,
+    let p = one-put (c .before .before) in
+    let h = t .loop-test .taken in (
+      same-size ns (l .i) h (l .out) (l .next) (left-fits t) _ _ p ∙ l .inv .0,
       (
         omega arith,
         (
-          same-end ns (l .i) (t .loop-test .taken) (l .out) (l .next) (left-fits t) _ _ p ∙ l .inv .1 .1 .0,
-          same-bytes ns (l .i) (t .loop-test .taken) (l .out) (l .next) (left-fits t) _ _ p ∙ l .inv .1 .1 .1,
+          same-end ns (l .i) h (l .out) (l .next) (left-fits t) _ _ p ∙ l .inv .1 .1 .0,
+          same-bytes ns (l .i) h (l .out) (l .next) (left-fits t) _ _ p ∙ l .inv .1 .1 .1,
         ),
       ),
     )

@@ -1,6 +1,6 @@
 -- `lines::put_spaced` meets its contract. Assumes nothing.
-use Prim.Native.Nat.{_+_, _-_, _≤_}
-use mathlib.Core.Path.{_≡_, refl, sym, _∙_, ap}
+use Prim.Native.Nat.{_+_, _-_}
+use mathlib.Core.Path.{_≡_, _∙_, ap}
 use native.Mathlib.Omega.{arith}
 use borrow.Author.Needs.{needs}
 use lib.ListN.{length, length-set, set}
@@ -11,7 +11,7 @@ use mir.Val.{toZ, ofZ}
 use mir.Facts.{toZ-ofZ}
 use Rattle.num.proofs.Signs.{below-zero, not-below-zero, inverted}
 use Rattle.packer.proofs.Joined.{written-length}
-use Rattle.lines.specs.Lines.{natural, spaced}
+use Rattle.lines.specs.Lines.{spaced}
 use Rattle.lines.proofs.Numbers.{some-bytes, minus-fits, minus-put, plain-fits, plain-put}
 use Rattle.lines.proofs.put_spaced.Statement.{statement}
 use Rattle.lines.proofs.put_spaced.Tie as tie
@@ -39,7 +39,8 @@ slice-write-out c = omega (arith, some-bytes (c .before .args .value))
 slice-write-out-2 : tie.Need-slice-write-out-2
 slice-write-out-2 c =
     let s = c .before .before in
-    omega (arith, minus-fits (s .args .out .now) (s .args .at) (s .args .value) (s .pre) (below c), length-set (set (s .args .out .now) (s .args .at) 32) (s .args .at + 1) 45)
+    let a = s .args in
+    omega (arith, minus-fits (a .out .now) (a .at) (a .value) (s .pre) (below c), length-set (set (a .out .now) (a .at) 32) (a .at + 1) 45)
 
 cast-put-natural : tie.Need-cast-put-natural
 cast-put-natural c = rw (low c) (tt, omega (arith, c .before .before .fits .value .sfits))

@@ -10,7 +10,8 @@ use Rattle.lines.proofs.put_word.Statement.{statement}
 use Rattle.lines.proofs.put_word.Tie as tie
 
 -- the word fits, so it is written
-answer : (c : tie.After-write-raw) → let a = c .before .before .before .before .args in Past (a .at + length (a .word .now)) ≡ c .write-raw .result
+answer : (c : tie.After-write-raw)
+    → let a = c .before .before .before .before .args in Past (a .at + length (a .word .now)) ≡ c .write-raw .result
 answer c =
     let s = c .before .before .before .before in
     fits-answer (s .args .out .now) (s .args .at) (s .args .word .now) (s .pre) ∙ sym (c .write-raw .ensures .0)
