@@ -9,9 +9,12 @@ use Rattle.fields.specs.Views.{zeros, argsWith}
 use Rattle.fields.specs.declared.Args.{Args}
 use Rattle.item.specs.Said.{Said, gives, more, finish, refusing}
 use Rattle.item.specs.Contents.{itemOf, withBeside}
-use Rattle.state.specs.State.{present, xOf, yOf, holds, tenOf}
-use Rattle.state.specs.Reading.{Event, other, readCall, readerAfter}
-use Rattle.state.specs.Views.{eventIs}
+use Rattle.item.specs.declared.Kind.{Kind}
+use Rattle.item.specs.declared.Kind.the-variants as kinds
+use Rattle.state.specs.State.{Memory, present, xOf, yOf, holds, tenOf}
+use Rattle.state.specs.Reading.{Event, other, Step, openCall, readCall, readerAfter}
+use Rattle.state.specs.Views.{eventIs, saidIs, slimSaid}
+use Rattle.state.specs.declared.Scalars.{Scalars}
 use Rattle.state.specs.declared.Entries.{Entries}
 use Rattle.state.specs.declared.Reader.{Reader}
 use Rattle.state.specs.declared.Event as code
@@ -40,6 +43,10 @@ saidWith answers.More xs = more
 saidWith (answers.Finish used) xs = finish used
 saidWith (answers.Refused r) xs = refusing r
 
+-- as many parts as the count says; the others are empty
+abbrev pub Tidy : Args → Type 0
+Tidy xs = argsWith (take (xs .count) (xs .parts)) ≡ xs
+
 abbrev pub recordEvent : code.Event → Bool
 recordEvent (events.TickStart t) = false
 recordEvent (events.TickEnd t) = false
@@ -55,13 +62,42 @@ isRecord answers.More = false
 isRecord (answers.Finish used) = false
 isRecord (answers.Refused r) = false
 
--- what it says, the reader that it leaves, the ten numbers and the former ten, and arguments that are padded with empty parts
-pub record ReadIs (reader : Reader) (w : List ℕ) (last : Bool) (r : ReadAnswer) : Type 0 where
-  pub said : saidWith (r .answer) (r .args) ≡ readCall reader w last .said
-  pub left : r .reader ≡ readerAfter (readCall reader w last)
-  pub input : r .input ≡ readCall reader w last .memory .input
-  pub former : r .former ≡ readCall reader w last .memory .former
-  pub args : argsWith (take (r .args .count) (r .args .parts)) ≡ r .args
+abbrev pub readAnswer : Answer → Scalars → Entries → List ℤ → List ℤ → Args → ReadAnswer
+readAnswer a s e ten former xs =
+    record { answer = a; reader = record { scalars = s; entries = e }; input = ten; former = former; args = xs }
+
+-- what a call says, the reader that it leaves, the ten numbers and the former ten, and arguments that are padded with empty parts
+pub record Tells (t : Step) (r : ReadAnswer) : Type 0 where
+  pub said : saidWith (r .answer) (r .args) ≡ t .said
+  pub left : r .reader ≡ readerAfter t
+  pub input : r .input ≡ t .memory .input
+  pub former : r .former ≡ t .memory .former
+  pub args : Tidy (r .args)
+
+abbrev pub ReadIs : Reader → List ℕ → Bool → ReadAnswer → Type 0
+ReadIs reader w last r = Tells (readCall reader w last) r
+
+-- ---- the arguments, which are read again
+
+abbrev pub isCommand : Kind → Bool
+isCommand (kinds.PlayerDiff c) = false
+isCommand kinds.Finish = false
+isCommand kinds.TickSkip = false
+isCommand (kinds.PlayerNew c) = false
+isCommand (kinds.PlayerOld c) = false
+isCommand kinds.InputDiff = false
+isCommand kinds.InputNew = false
+isCommand kinds.Message = false
+isCommand kinds.Join = false
+isCommand kinds.Drop = false
+isCommand kinds.ConsoleCommand = true
+isCommand kinds.Ex = false
+
+-- where a call's answer is a without arguments, they are those that it lacks
+pub record ArgsFor (a : Answer) (s : Scalars) (w : List ℕ) (xs : Args) : Type 0 where
+  pub said :
+      (m : Memory) (last : Bool) → saidIs a ≡ slimSaid (openCall s m w last .said) → saidWith a xs ≡ openCall s m w last .said
+  pub tidy : Tidy xs
 
 -- ---- lookups
 

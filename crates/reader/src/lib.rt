@@ -3,19 +3,31 @@ ghost use mathlib.Core.Path.{_≡_};
 ghost use mathlib.Core.Bool.{false};
 ghost use lib.IntN.{pos, _+ℤ_};
 ghost use Rattle.fields.specs.Views.{zeros};
+ghost use Rattle.item.specs.Said.{refusing};
 ghost use Rattle.item.specs.Contents.{noArgs};
 ghost use Rattle.state.specs.State.{goodReader};
-ghost use Rattle.reader.specs.Answers.{isRecord, ReadIs, posOf, inputAnswer, inputFor};
+ghost use Rattle.state.specs.Reading.{step, openCall, memoryOf};
+ghost use Rattle.reader.specs.Answers.{
+  recordEvent,
+  isRecord,
+  isCommand,
+  ArgsFor,
+  readAnswer,
+  Tells,
+  ReadIs,
+  posOf,
+  inputAnswer,
+  inputFor,
+};
 use fields::Args;
 use item::Kind;
 use item::KindRead;
-use item::Version;
 use packer::Part;
 use refusal::Refusal;
 use state::Answer;
 use state::Entries;
 use state::Event;
-use state::Pending;
+use state::Outcome;
 use state::Reader;
 use state::Scalars;
 
@@ -61,52 +73,118 @@ fn no_args() -> Args
     }
 }
 
+fn is_record_event(event: Event) -> bool
+    ensures { λ r. ⌜ r ≡ recordEvent event ⌝ }
+{
+    match event {
+        Event::TickStart(_) => false,
+        Event::TickEnd(_) => false,
+        Event::PlayerNew { cid: _, x: _, y: _ } => false,
+        Event::PlayerChange {
+            cid: _,
+            x: _,
+            y: _,
+            old_x: _,
+            old_y: _,
+        } => false,
+        Event::PlayerOld { cid: _, x: _, y: _ } => false,
+        Event::Input { cid: _, former: _ } => false,
+        Event::Record(_) => true,
+    }
+}
+
 fn is_record(answer: Answer) -> bool
     ensures { λ r. ⌜ r ≡ isRecord answer ⌝ }
 {
-    let Answer::Event { event, used: _ } = answer else {
-        return false;
-    };
-    if let Event::Record(_) = event {
-        true
-    } else {
-        false
+    match answer {
+        Answer::Event { event, used: _ } => is_record_event(event),
+        Answer::More => false,
+        Answer::Finish { used: _ } => false,
+        Answer::Refused(_) => false,
+    }
+}
+
+fn is_command(kind: Kind) -> bool
+    ensures { λ r. ⌜ r ≡ isCommand kind ⌝ }
+{
+    match kind {
+        Kind::PlayerDiff(_) => false,
+        Kind::Finish => false,
+        Kind::TickSkip => false,
+        Kind::PlayerNew(_) => false,
+        Kind::PlayerOld(_) => false,
+        Kind::InputDiff => false,
+        Kind::InputNew => false,
+        Kind::Message => false,
+        Kind::Join => false,
+        Kind::Drop => false,
+        Kind::ConsoleCommand => true,
+        Kind::Ex => false,
     }
 }
 
 // The arguments that stand beside the record that a call gave; none beside anything but a command.
-fn args_of(answer: Answer, version: Version, pending: Pending, w: &[u8]) -> Args {
+fn args_of(answer: Answer, s: Scalars, w: &[u8]) -> Args
+    ensures { λ r. ⌜ ArgsFor answer s (now (w .entry)) r ⌝ }
+{
     if !is_record(answer) {
         return no_args();
     }
+    let version = s.version;
+    let pending = s.pending;
     let read = step::next_kind(version, pending, w);
-    let KindRead::Got { kind, next } = read else {
-        return no_args();
-    };
-    if let Kind::ConsoleCommand = kind {
-        let rest = records::read_rest(kind, w, next);
-        let value = rest.value;
-        return value.args;
+    match read {
+        KindRead::Got { kind, next } => {
+            if is_command(kind) {
+                let rest = records::read_rest(kind, w, next);
+                let value = rest.value;
+                let args = value.args;
+                return args;
+            }
+            no_args()
+        }
+        KindRead::RunsOut => no_args(),
+        KindRead::Refused(_) => no_args(),
     }
-    no_args()
 }
 
-fn refused(reader: Reader, why: Refusal) -> ReadAnswer {
+fn answered(
+    o: Outcome,
+    entries: Entries,
+    input: [i32; 10],
+    former: [i32; 10],
+    args: Args,
+) -> ReadAnswer
+    ensures { λ r. ⌜ r ≡ readAnswer (o .answer) (o .scalars) entries input former args ⌝ }
+{
+    let answer = o.answer;
+    let scalars = o.scalars;
     ReadAnswer {
-        answer: Answer::Refused(why),
-        reader,
-        input: [0; 10],
-        former: [0; 10],
-        args: no_args(),
+        answer,
+        reader: Reader { scalars, entries },
+        input,
+        former,
+        args,
     }
 }
 
-// The reading call: the window begins at the reader's place; last says that no more bytes come.
-pub fn read(reader: Reader, window: &[u8], last: bool) -> ReadAnswer
-    ensures { λ r. ⌜ ReadIs reader (now (window .entry)) last r ⌝ }
+// A refusal that changes nothing.
+fn refused(reader: Reader, why: Refusal) -> ReadAnswer
+    ensures { λ r. ⌜ Tells (step (refusing why) (reader .scalars) (memoryOf (reader .entries))) r ⌝ }
 {
     let scalars = reader.scalars;
     let entries = reader.entries;
+    let o = Outcome {
+        answer: Answer::Refused(why),
+        scalars,
+    };
+    answered(o, entries, [0; 10], [0; 10], no_args())
+}
+
+// A call on an open reader.
+fn open_read(s: Scalars, entries: Entries, window: &[u8], last: bool) -> ReadAnswer
+    ensures { λ r. ⌜ Tells (openCall s (memoryOf entries) (now (window .entry)) last) r ⌝ }
+{
     let mut marks = entries.marks;
     let mut xs = entries.xs;
     let mut ys = entries.ys;
@@ -114,18 +192,8 @@ pub fn read(reader: Reader, window: &[u8], last: bool) -> ReadAnswer
     let mut inputs = entries.inputs;
     let mut input = [0i32; 10];
     let mut former = [0i32; 10];
-    let good = both(
-        good_scalars(scalars),
-        both(good_players(&marks, &xs, &ys), good_inputs(&held, &inputs)),
-    );
-    if !good {
-        return refused(reader, Refusal::BadState);
-    }
-    if scalars.closed {
-        return refused(reader, Refusal::Closed);
-    }
     let o = step::open_call(
-        scalars,
+        s,
         &mut marks,
         &mut xs,
         &mut ys,
@@ -137,28 +205,30 @@ pub fn read(reader: Reader, window: &[u8], last: bool) -> ReadAnswer
         last,
     );
     let answer = o.answer;
-    let left = o.scalars;
-    let version = scalars.version;
-    let pending = scalars.pending;
-    let args = args_of(answer, version, pending, window);
-    let entries = Entries {
+    let args = args_of(answer, s, window);
+    let left = Entries {
         marks,
         xs,
         ys,
         held,
         inputs,
     };
-    let reader = Reader {
-        scalars: left,
-        entries,
-    };
-    ReadAnswer {
-        answer,
-        reader,
-        input,
-        former,
-        args,
+    answered(o, left, input, former, args)
+}
+
+// The reading call: the window begins at the reader's place; last says that no more bytes come.
+pub fn read(reader: Reader, window: &[u8], last: bool) -> ReadAnswer
+    ensures { λ r. ⌜ ReadIs reader (now (window .entry)) last r ⌝ }
+{
+    if !is_good(reader) {
+        return refused(reader, Refusal::BadState);
     }
+    let scalars = reader.scalars;
+    let entries = reader.entries;
+    if scalars.closed {
+        return refused(reader, Refusal::Closed);
+    }
+    open_read(scalars, entries, window, last)
 }
 
 // The position of a client, or none.

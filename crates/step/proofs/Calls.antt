@@ -12,7 +12,7 @@ use Rattle.state.specs.State.{Memory}
 use Rattle.state.specs.Reading.{Step, refusal, outOf, tickRule, withRule, withKind, nextKind, openCall}
 use Rattle.state.specs.Views.{slimStep}
 use Rattle.state.specs.declared.Scalars.{Scalars}
-use Rattle.step.proofs.Slim.{slim-refusal, slim-out}
+use Rattle.step.proofs.Slim.{slim-calm, calm-refusal, calm-out}
 
 module _ (s : Scalars) (m : Memory) (w : List ℕ) (last : Bool) (r : KindRead) (k : kindIs r ≡ nextKind (s .version) (s .pending) w) where
   kind-told : (x : KindRead) → r ≡ x → slimStep (withKind s m w last (kindIs x)) ≡ slimStep (openCall s m w last)
@@ -24,7 +24,7 @@ module _ (s : Scalars) (m : Memory) (w : List ℕ) (last : Bool) (r : KindRead) 
   kind-got kind n e = kind-told (reads.Got kind n) e
 
   pub kind-out : r ≡ reads.RunsOut → outOf last s m ≡ slimStep (openCall s m w last)
-  kind-out e = sym (slim-out last s m) ∙ kind-told reads.RunsOut e
+  kind-out e = sym (slim-calm _ (calm-out last s m)) ∙ kind-told reads.RunsOut e
 
   pub kind-refused : (q : Refusal) → r ≡ reads.Refused q → refusal q s m ≡ slimStep (openCall s m w last)
-  kind-refused q e = sym (slim-refusal q s m) ∙ kind-told (reads.Refused q) e
+  kind-refused q e = sym (slim-calm _ (calm-refusal q s m)) ∙ kind-told (reads.Refused q) e

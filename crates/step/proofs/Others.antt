@@ -29,7 +29,7 @@ use Rattle.state.specs.Views.{slimStep}
 use Rattle.state.specs.declared.Scalars.{Scalars}
 use Rattle.state.proofs.Every.{left-of, right-of}
 use Rattle.step.specs.Kinds.{isOther}
-use Rattle.step.proofs.Slim.{slim-refusal, slim-out}
+use Rattle.step.proofs.Slim.{slim-calm, calm-refusal, calm-out}
 
 -- ---- the kinds and tags of these records
 
@@ -164,8 +164,8 @@ module _ (s : Scalars) (m : Memory) where
 
     other-step : (x : Reading (Content Part)) → OtherRest x → afterItem (own x) ≡ slimStep (withRest s m last x)
     other-step (got c n) o = apply-other c n o
-    other-step runsOut o = sym (slim-out last s m)
-    other-step (refused r) o = sym (slim-refusal r s m)
+    other-step runsOut o = sym (slim-calm _ (calm-out last s m))
+    other-step (refused r) o = sym (slim-calm _ (calm-refusal r s m))
 
     pub other-rest : (w : List ℕ) (at : ℕ) (k : Kind) → isOther k ≡ true → (r i : ItemRead) → itemIs r ≡ own (readRest k w at) → r ≡ i
         → afterItem (itemIs i) ≡ slimStep (withRest s m last (readRest k w at))

@@ -32,7 +32,7 @@ use Rattle.state.specs.Reading.{Step, step, refusal, outOf, closing, naming, ra
 use Rattle.state.specs.Views.{slimStep}
 use Rattle.state.specs.declared.Scalars.{Scalars}
 use Rattle.step.specs.Kinds.{pairKind, inputKind}
-use Rattle.step.proofs.Slim.{slim-refusal, slim-out, slim-diff, slim-new, slim-old, slim-input-diff, slim-input-new, slim-skip}
+use Rattle.step.proofs.Slim.{slim-calm, calm-refusal, calm-out, calm-diff, calm-new, calm-old, calm-input-diff, calm-input-new, calm-skip}
 
 module _ (s : Scalars) (m : Memory) (last : Bool) (w : List ℕ) (at : ℕ) where
   -- ---- players
@@ -46,8 +46,8 @@ module _ (s : Scalars) (m : Memory) (last : Bool) (w : List ℕ) (at : ℕ) wher
 
   pair-step : (new : Bool) (cid : ℤ) (f : Fields) (n : ℕ) → pairStep new cid (f .first) (f .second) n ≡ pairOf new cid (viewed IntInt (shapes.Got f n))
   unfolding apply numbers
-  pair-step true cid f n = sym (slim-new (naming cid s) m cid (f .first) (f .second) n)
-  pair-step false cid f n = sym (slim-diff (naming cid s) m cid (f .first) (f .second) n)
+  pair-step true cid f n = sym (slim-calm _ (calm-new (naming cid s) m cid (f .first) (f .second) n))
+  pair-step false cid f n = sym (slim-calm _ (calm-diff (naming cid s) m cid (f .first) (f .second) n))
 
   pair-rest : (new : Bool) (cid : ℤ) → pairOf new cid (readFields (fieldsIn IntInt) w at) ≡ slimStep (withRest s m last (readRest (pairKind new cid) w at))
   unfolding readRest
@@ -56,7 +56,7 @@ module _ (s : Scalars) (m : Memory) (last : Bool) (w : List ℕ) (at : ℕ) wher
 
   module _ (new : Bool) (cid : ℤ) (r : FieldsRead) (v : viewed IntInt r ≡ readFields (fieldsIn IntInt) w at) where
     pub pair-out : r ≡ shapes.RunsOut → outOf last s m ≡ slimStep (withRest s m last (readRest (pairKind new cid) w at))
-    pair-out e = sym (slim-out last s m) ∙ ap (pairOf new cid) (ap (viewed IntInt) (sym e) ∙ v) ∙ pair-rest new cid
+    pair-out e = sym (slim-calm _ (calm-out last s m)) ∙ ap (pairOf new cid) (ap (viewed IntInt) (sym e) ∙ v) ∙ pair-rest new cid
 
     pub pair-got : (f : Fields) (n : ℕ) → r ≡ shapes.Got f n
         → pairStep new cid (f .first) (f .second) n ≡ slimStep (withRest s m last (readRest (pairKind new cid) w at))
@@ -64,7 +64,7 @@ module _ (s : Scalars) (m : Memory) (last : Bool) (w : List ℕ) (at : ℕ) wher
 
   pub old-rest : (cid : ℤ) → oldPlayer (naming cid s) m cid at ≡ slimStep (withRest s m last (readRest (kinds.PlayerOld cid) w at))
   unfolding readRest apply
-  old-rest cid = sym (slim-old (naming cid s) m cid at)
+  old-rest cid = sym (slim-calm _ (calm-old (naming cid s) m cid at))
 
   -- ---- Finish
 
@@ -82,17 +82,17 @@ module _ (s : Scalars) (m : Memory) (last : Bool) (w : List ℕ) (at : ℕ) wher
   skip-rest = refl
 
   pub skip-out : readInt w at ≡ ints.RunsOut → outOf last s m ≡ slimStep (withRest s m last (readRest kinds.TickSkip w at))
-  skip-out e = sym (slim-out last s m) ∙ ap skipOf (sym e) ∙ skip-rest
+  skip-out e = sym (slim-calm _ (calm-out last s m)) ∙ ap skipOf (sym e) ∙ skip-rest
 
   module _ (k next : ℕ) (remark : Remark) where
     pub skip-negative : readInt w at ≡ ints.Got (negsuc k) next remark
         → refusal NegativeDt s m ≡ slimStep (withRest s m last (readRest kinds.TickSkip w at))
-    skip-negative e = sym (slim-refusal NegativeDt s m) ∙ ap skipOf (sym e) ∙ skip-rest
+    skip-negative e = sym (slim-calm _ (calm-refusal NegativeDt s m)) ∙ ap skipOf (sym e) ∙ skip-rest
 
     pub skip-got : readInt w at ≡ ints.Got (pos k) next remark
         → tickSkip s m k next ≡ slimStep (withRest s m last (readRest kinds.TickSkip w at))
     unfolding apply numbers
-    skip-got e = sym (slim-skip s m k next) ∙ ap skipOf (sym e) ∙ skip-rest
+    skip-got e = sym (slim-calm _ (calm-skip s m k next)) ∙ ap skipOf (sym e) ∙ skip-rest
 
   -- ---- inputs
 
@@ -109,9 +109,9 @@ module _ (s : Scalars) (m : Memory) (last : Bool) (w : List ℕ) (at : ℕ) wher
 
   input-step : (new : Bool) (x : Reading (List (Value Part))) → Numbers 11 x → inputAfter new (inputRead x .answer) (inputRead x .input) ≡ inputOf new x
   unfolding apply
-  input-step true (got vs n) h = sym (slim-input-new (raising (Of (first (numbers vs))) s) m (first (numbers vs)) (drop 1 (numbers vs)) n)
-  input-step false (got vs n) h = sym (slim-input-diff (raising (Of (first (numbers vs))) s) m (first (numbers vs)) (drop 1 (numbers vs)) n)
-  input-step new runsOut h = sym (slim-out last s m)
+  input-step true (got vs n) h = sym (slim-calm _ (calm-input-new (raising (Of (first (numbers vs))) s) m (first (numbers vs)) (drop 1 (numbers vs)) n))
+  input-step false (got vs n) h = sym (slim-calm _ (calm-input-diff (raising (Of (first (numbers vs))) s) m (first (numbers vs)) (drop 1 (numbers vs)) n))
+  input-step new runsOut h = sym (slim-calm _ (calm-out last s m))
   input-step new (refused r) h = absurd h
 
   input-is : (new : Bool) → inputOf new (readFields inputFields w at) ≡ slimStep (withRest s m last (readRest (inputKind new) w at))

@@ -3,7 +3,7 @@ use mathlib.Core.Path.{_≡_, sym, _∙_}
 use mir.Syntax.{w32}
 use mir.Val.{toZ, ofZ}
 use Rattle.state.specs.State.{memory}
-use Rattle.step.proofs.Slim.{slim-refusal}
+use Rattle.step.proofs.Slim.{slim-calm, calm-refusal}
 use Rattle.refusal.specs.declared.Refusal.the-variants.{TickOverflow}
 use borrow.Author.Needs.{needs}
 use Rattle.step.proofs.with_rule.Statement.{statement}
@@ -38,7 +38,7 @@ returns-5 : tie.Need-returns-5
 returns-5 c =
     let a = c .before .before .before .before .before .args in
     let m = memory (a .marks .now) (a .xs .now) (a .ys .now) (a .held .now) (a .inputs .now) (a .input .now) (a .former .now) in
-    rw (c .before .enum-told4 .given .1) (c .refuse .ensures m ∙ sym (slim-refusal TickOverflow (a .s) m))
+    rw (c .before .enum-told4 .given .1) (c .refuse .ensures m ∙ sym (slim-calm _ (calm-refusal TickOverflow (a .s) m)))
 
 pub with-rule-spec : {M : Type 1} → statement M
 with-rule-spec =
