@@ -1,5 +1,7 @@
--- The number of each refusal. Document 01, "What a call may say".
+-- The number of each refusal, and its values. Document 01, "What a call may say".
 use Prim.Native.Nat.{ℕ}
+use mathlib.Core.List.{List, [], _∷_}
+use lib.IntN.{ℤ}
 use Rattle.refusal.specs.declared.Refusal.{Refusal}
 use Rattle.refusal.specs.declared.Refusal.the-variants.{
   WrongMagic,
@@ -43,3 +45,25 @@ numberOf InputDiffWithoutNew = 16
 numberOf BadState = 17
 numberOf Closed = 18
 numberOf NotLast = 19
+
+-- the values that come with a refusal: the kind with 4
+abbrev pub valuesOf : Refusal → List ℤ
+valuesOf WrongMagic = []
+valuesOf UnknownVersion = []
+valuesOf UnexpectedEnd = []
+valuesOf (UnknownType kind) = kind ∷ []
+valuesOf NegativeDt = []
+valuesOf NegativeNumArgs = []
+valuesOf NumArgsTooLarge = []
+valuesOf InvalidClientId = []
+valuesOf ShortTarget = []
+valuesOf ClientTooLarge = []
+valuesOf Unwritable = []
+valuesOf TickOverflow = []
+valuesOf PlayerNewDuplicate = []
+valuesOf PlayerDiffWithoutNew = []
+valuesOf PlayerOldWithoutNew = []
+valuesOf InputDiffWithoutNew = []
+valuesOf BadState = []
+valuesOf Closed = []
+valuesOf NotLast = []

@@ -1,0 +1,90 @@
+-- An event that fits and one that doesn't; the events of a client by the tests that the code makes (b is the client's bits); ten
+-- numbers compared. Assumes nothing.
+use Prim.Native.Nat.{ℕ, _+_, _≤_, _<_}
+use mathlib.Core.Path.{_≡_, refl}
+use mathlib.Core.Bool.{Bool, true, false, not, _&&_}
+use mathlib.Core.List.{List}
+use native.Mathlib.Omega.{arith}
+use native.Mathlib.Numerals.{add-one}
+use lib.ListN.{length, getD, drop, drop-of-length-le}
+use lib.Seq.{drop-cons}
+use lib.Dec.{eqb}
+use lib.IntN.{ℤ, pos, negsuc}
+use borrow.Author.Tests.{lt-ltb, le-ltb, not-true, not-false}
+use mir.Syntax.{w32}
+use mir.Val.{SFits, ofZ}
+use Rattle.refusal.specs.declared.Refusal.the-variants.{BadState, NotLast}
+use Rattle.state.specs.State.{same, xOf, yOf, tenOf, withPlayer}
+use Rattle.state.specs.Reading.{Event}
+use Rattle.state.specs.declared.Entries.{Entries}
+use Rattle.state.proofs.Numbers.{client-is}
+use Rattle.back.specs.Board.{board, goodBoard}
+use Rattle.back.specs.Back.{was, refused, onlyIf, sameAll, unPresent, unOld, formerInput, unInput, takeOff, stepBack, steppedFrom}
+use Rattle.back.specs.declared.BoardTick.{BoardTick}
+use Rattle.back.specs.declared.BoardTick.the-variants.{In}
+use Rattle.back.specs.declared.Board.{Board}
+
+-- ---- fits or not
+
+pub fitting : (given before : Board) (t : Bool) → t ≡ true → steppedFrom given (was before) ≡ steppedFrom given (onlyIf t before)
+fitting given before t e = rw e
+
+pub unfit : (given before : Board) (t : Bool) → t ≡ false → steppedFrom given (refused NotLast) ≡ steppedFrom given (onlyIf t before)
+unfit given before t e = rw e
+
+-- ---- a client without an entry
+
+module _ (t : ℤ) (e : Entries) where
+  pub present-far : (z x y : ℤ) (mark : ℕ) (old-x old-y : ℤ) (b : ℕ) → SFits w32 z → b ≡ ofZ w32 z → 128 ≤ b
+      → refused NotLast ≡ unPresent t e z x y mark old-x old-y
+  present-far (pos c) x y mark old-x old-y b f q h = rw (le-ltb c 128 (omega arith))
+  present-far (negsuc c) x y mark old-x old-y b f q h = refl
+
+  pub old-far : (z x y : ℤ) (b : ℕ) → SFits w32 z → b ≡ ofZ w32 z → 128 ≤ b → refused NotLast ≡ unOld t e z x y
+  old-far (pos c) x y b f q h = rw (le-ltb c 128 (omega arith))
+  old-far (negsuc c) x y b f q h = refl
+
+  pub input-far : (z : ℤ) (had : Bool) (ten former : List ℤ) (b : ℕ) → SFits w32 z → b ≡ ofZ w32 z → 128 ≤ b
+      → refused NotLast ≡ unInput t e z had ten former
+  input-far (pos c) had ten former b f q h = rw (le-ltb c 128 (omega arith))
+  input-far (negsuc c) had ten former b f q h = refl
+
+-- ---- a client below 128
+
+module _ (t : ℤ) (e : Entries) (z : ℤ) (b : ℕ) (f : SFits w32 z) (q : b ≡ ofZ w32 z) (h : b < 128) where
+  pub present-near : (x y : ℤ) (mark : ℕ) (old-x old-y : ℤ)
+      → onlyIf (eqb (getD (e .marks) b 0) 1 && (same (xOf e b) x && same (yOf e b) y)) (board (In t) (withPlayer e b mark old-x old-y))
+      ≡ unPresent t e z x y mark old-x old-y
+  present-near x y mark old-x old-y = rw (client-is z b f q h, lt-ltb b 128 h)
+
+  pub old-near : (x y : ℤ)
+      → onlyIf (not (eqb (getD (e .marks) b 0) 1)) (board (In t) (withPlayer e b 1 x y)) ≡ unOld t e z x y
+  old-near x y = rw (client-is z b f q h, lt-ltb b 128 h)
+
+  pub input-near : (had : Bool) (ten former : List ℤ)
+      → onlyIf (eqb (getD (e .held) b 0) 1 && sameAll (tenOf (e .inputs) b) ten) (board (In t) (formerInput e b had former))
+      ≡ unInput t e z had ten former
+  input-near had ten former = rw (client-is z b f q h, lt-ltb b 128 h)
+
+-- ---- the whole step: b is the board, g the flag of its test
+
+module _ (b : Board) (e : Event) (ten former : List ℤ) (g : Bool) (q : g ≡ goodBoard b) where
+  pub bad : not g ≡ true → refused BadState ≡ stepBack b e ten former
+  unfolding stepBack
+  bad n = rw (← q, not-true g n)
+
+  pub good-in : not g ≡ false → (t : BoardTick) → b .tick ≡ t
+      → steppedFrom (board t (b .entries)) (takeOff e ten former t (b .entries)) ≡ steppedFrom b (stepBack b e ten former)
+  unfolding stepBack
+  good-in n t p = rw (← q, not-false g n, ← p)
+
+-- ---- ten numbers compared
+
+pub same-here : (a b : List ℤ) (k : ℕ) → k < length a → k < length b
+    → sameAll (drop k a) (drop k b) ≡ (same (getD a k (pos 0)) (getD b k (pos 0)) && sameAll (drop (k + 1) a) (drop (k + 1) b))
+unfolding sameAll
+same-here a b k ha hb = rw (drop-cons a k (pos 0) ha, drop-cons b k (pos 0) hb, add-one k)
+
+pub same-end : (a b : List ℤ) (k : ℕ) → length a ≤ k → length b ≤ k → sameAll (drop k a) (drop k b) ≡ true
+unfolding sameAll
+same-end a b k ha hb = rw (drop-of-length-le a {i = k} ha, drop-of-length-le b {i = k} hb)

@@ -1,0 +1,331 @@
+// The board, and stepping back over an event.
+ghost use mathlib.Core.Path.{_≡_};
+ghost use mathlib.Core.Bool.{_&&_};
+ghost use mathlib.Core.List.{List};
+ghost use Prim.Native.Nat.{_<_};
+ghost use lib.Dec.{eqb};
+ghost use lib.IntN.{ℤ};
+ghost use lib.Signed.{nonNeg};
+ghost use Rattle.refusal.specs.declared.Refusal.the-variants.{NotLast};
+ghost use Rattle.state.specs.State.{same, withPlayer, withInput};
+ghost use Rattle.state.specs.Views.{eventIs};
+ghost use Rattle.back.specs.Board.{board, boardOf, goodTick, goodBoard};
+ghost use Rattle.back.specs.Back.{
+  was,
+  refused,
+  onlyIf,
+  sameAll,
+  unPresent,
+  unOld,
+  formerInput,
+  unInput,
+  takeOff,
+  stepBack,
+  steppedFrom,
+};
+ghost use Rattle.back.specs.declared.BoardTick.the-variants.{In, NoTick};
+use refusal::Refusal;
+use state::Entries;
+use state::Event;
+use state::Reader;
+
+// The tick that was started, or none.
+pub enum BoardTick {
+    In(i32),
+    NoTick,
+}
+
+pub struct Board {
+    pub tick: BoardTick,
+    pub entries: Entries,
+}
+
+pub enum BackAnswer {
+    Back,
+    Refused(Refusal),
+}
+
+// The earlier board, or in a refusal the one that was given.
+pub struct SteppedBack {
+    pub answer: BackAnswer,
+    pub board: Board,
+}
+
+// The board of a reader.
+pub fn board_of(reader: Reader) -> Board
+    ensures { λ r. ⌜ r ≡ boardOf reader ⌝ }
+{
+    let scalars = reader.scalars;
+    let entries = reader.entries;
+    let tick = scalars.tick;
+    if scalars.inside {
+        return Board {
+            tick: BoardTick::In(tick),
+            entries,
+        };
+    }
+    Board {
+        tick: BoardTick::NoTick,
+        entries,
+    }
+}
+
+fn same_number(a: i32, b: i32) -> bool
+    ensures { λ r. ⌜ r ≡ same a b ⌝ }
+{
+    a == b
+}
+
+fn same_ten(a: [i32; 10], b: [i32; 10]) -> bool
+    ensures { λ r. ⌜ r ≡ sameAll a b ⌝ }
+{
+    let mut k: usize = 0;
+    while k < 10 {
+        let x = a[k];
+        let y = b[k];
+        if !same_number(x, y) {
+            return false;
+        }
+        k += 1;
+    }
+    true
+}
+
+fn not_negative(x: i32) -> bool
+    ensures { λ r. ⌜ r ≡ nonNeg x ⌝ }
+{
+    0 <= x
+}
+
+fn good_tick(tick: BoardTick) -> bool
+    ensures { λ r. ⌜ r ≡ goodTick tick ⌝ }
+{
+    let BoardTick::In(t) = tick else {
+        return true;
+    };
+    not_negative(t)
+}
+
+// Whether the board is not refused 17.
+fn good_board(board: Board) -> bool
+    ensures { λ r. ⌜ r ≡ goodBoard board ⌝ }
+{
+    let tick = board.tick;
+    let entries = board.entries;
+    good::both(good_tick(tick), good::good_entries(entries))
+}
+
+fn refuse(board: Board, why: Refusal) -> SteppedBack
+    ensures { λ r. ⌜ r ≡ steppedFrom board (refused why) ⌝ }
+{
+    SteppedBack {
+        answer: BackAnswer::Refused(why),
+        board,
+    }
+}
+
+fn not_last(tick: BoardTick, entries: Entries) -> SteppedBack
+    ensures { λ r. ⌜ r ≡ steppedFrom (board tick entries) (refused NotLast) ⌝ }
+{
+    let board = Board { tick, entries };
+    refuse(board, Refusal::NotLast)
+}
+
+fn stepped(tick: BoardTick, entries: Entries) -> SteppedBack
+    ensures { λ r. ⌜ ((b : Board) → r ≡ steppedFrom b (was (board tick entries))) ⌝ }
+{
+    SteppedBack {
+        answer: BackAnswer::Back,
+        board: Board { tick, entries },
+    }
+}
+
+fn with_player(entries: Entries, c: usize, mark: u8, x: i32, y: i32) -> Entries
+    requires { ⌜ c < 128 ⌝ }
+    ensures { λ r. ⌜ r ≡ withPlayer entries c mark x y ⌝ }
+{
+    let mut before = entries;
+    before.marks[c] = mark;
+    before.xs[c] = x;
+    before.ys[c] = y;
+    before
+}
+
+fn with_input(entries: Entries, c: usize, mark: u8, ns: [i32; 10]) -> Entries
+    requires { ⌜ c < 128 ⌝ }
+    ensures { λ r. ⌜ r ≡ withInput entries c mark ns ⌝ }
+{
+    let mut before = entries;
+    before.held[c] = mark;
+    inputs::put_ten_at(&mut before.inputs, c, ns);
+    before
+}
+
+// Whether an entry has mark 1 and the position x, y.
+fn at_position(mark: u8, px: i32, py: i32, x: i32, y: i32) -> bool
+    ensures { λ r. ⌜ r ≡ (eqb mark 1 && (same px x && same py y)) ⌝ }
+{
+    good::both(
+        mark == 1,
+        good::both(same_number(px, x), same_number(py, y)),
+    )
+}
+
+// PlayerNew and PlayerChange: the client is at x, y, and its entry was another.
+fn un_present(
+    t: i32,
+    entries: Entries,
+    cid: i32,
+    x: i32,
+    y: i32,
+    mark: u8,
+    old_x: i32,
+    old_y: i32,
+) -> SteppedBack
+    ensures { λ r. ⌜ r ≡ steppedFrom (board (In t) entries) (unPresent t entries cid x y mark «old_x» «old_y») ⌝ }
+{
+    let bits = num::bits(cid);
+    if 128 <= bits {
+        return not_last(BoardTick::In(t), entries);
+    }
+    let c = bits as usize;
+    if !at_position(entries.marks[c], entries.xs[c], entries.ys[c], x, y) {
+        return not_last(BoardTick::In(t), entries);
+    }
+    let before = with_player(entries, c, mark, old_x, old_y);
+    stepped(BoardTick::In(t), before)
+}
+
+fn un_old(t: i32, entries: Entries, cid: i32, x: i32, y: i32) -> SteppedBack
+    ensures { λ r. ⌜ r ≡ steppedFrom (board (In t) entries) (unOld t entries cid x y) ⌝ }
+{
+    let bits = num::bits(cid);
+    if 128 <= bits {
+        return not_last(BoardTick::In(t), entries);
+    }
+    let c = bits as usize;
+    if entries.marks[c] == 1 {
+        return not_last(BoardTick::In(t), entries);
+    }
+    let before = with_player(entries, c, 1, x, y);
+    stepped(BoardTick::In(t), before)
+}
+
+fn former_input(entries: Entries, c: usize, had: bool, former: [i32; 10]) -> Entries
+    requires { ⌜ c < 128 ⌝ }
+    ensures { λ r. ⌜ r ≡ formerInput entries c had former ⌝ }
+{
+    if had {
+        return with_input(entries, c, 1, former);
+    }
+    with_input(entries, c, 0, [0; 10])
+}
+
+fn un_input(
+    t: i32,
+    entries: Entries,
+    cid: i32,
+    had: bool,
+    input: [i32; 10],
+    former: [i32; 10],
+) -> SteppedBack
+    ensures { λ r. ⌜ r ≡ steppedFrom (board (In t) entries) (unInput t entries cid had input former) ⌝ }
+{
+    let bits = num::bits(cid);
+    if 128 <= bits {
+        return not_last(BoardTick::In(t), entries);
+    }
+    let c = bits as usize;
+    if entries.held[c] != 1 {
+        return not_last(BoardTick::In(t), entries);
+    }
+    let ten = inputs::ten_at(&entries.inputs, c);
+    if !same_ten(ten, input) {
+        return not_last(BoardTick::In(t), entries);
+    }
+    let before = former_input(entries, c, had, former);
+    stepped(BoardTick::In(t), before)
+}
+
+fn un_start(t: i32, entries: Entries, u: i32) -> SteppedBack
+    ensures { λ r. ⌜ r ≡ steppedFrom (board (In t) entries) (onlyIf (same t u) (board NoTick entries)) ⌝ }
+{
+    if same_number(t, u) {
+        return stepped(BoardTick::NoTick, entries);
+    }
+    not_last(BoardTick::In(t), entries)
+}
+
+// An event taken off a board inside tick t.
+fn inside(
+    t: i32,
+    entries: Entries,
+    event: Event,
+    input: [i32; 10],
+    former: [i32; 10],
+) -> SteppedBack
+    ensures { λ r. ⌜ r ≡ steppedFrom (board (In t) entries) (takeOff (eventIs event) input former (In t) entries) ⌝ }
+{
+    match event {
+        Event::TickStart(u) => un_start(t, entries, u),
+        Event::TickEnd(_) => not_last(BoardTick::In(t), entries),
+        Event::PlayerNew { cid, x, y } => un_present(t, entries, cid, x, y, 0, 0, 0),
+        Event::PlayerChange {
+            cid,
+            x,
+            y,
+            old_x,
+            old_y,
+        } => un_present(t, entries, cid, x, y, 1, old_x, old_y),
+        Event::PlayerOld { cid, x, y } => un_old(t, entries, cid, x, y),
+        Event::Input { cid, former: had } => un_input(t, entries, cid, had, input, former),
+        Event::Record(_) => stepped(BoardTick::In(t), entries),
+    }
+}
+
+fn un_end(entries: Entries, u: i32) -> SteppedBack
+    ensures { λ r. ⌜ r ≡ steppedFrom (board NoTick entries) (onlyIf (nonNeg u) (board (In u) entries)) ⌝ }
+{
+    if not_negative(u) {
+        return stepped(BoardTick::In(u), entries);
+    }
+    not_last(BoardTick::NoTick, entries)
+}
+
+// An event taken off a board outside any tick: only TickEnd fits.
+fn outside(entries: Entries, event: Event) -> SteppedBack
+    ensures { λ r. ⌜
+        ((input former : List ℤ) → r ≡ steppedFrom (board NoTick entries) (takeOff (eventIs event) input former NoTick entries))
+        ⌝ }
+{
+    match event {
+        Event::TickStart(_) => not_last(BoardTick::NoTick, entries),
+        Event::TickEnd(u) => un_end(entries, u),
+        Event::PlayerNew { cid: _, x: _, y: _ } => not_last(BoardTick::NoTick, entries),
+        Event::PlayerChange {
+            cid: _,
+            x: _,
+            y: _,
+            old_x: _,
+            old_y: _,
+        } => not_last(BoardTick::NoTick, entries),
+        Event::PlayerOld { cid: _, x: _, y: _ } => not_last(BoardTick::NoTick, entries),
+        Event::Input { cid: _, former: _ } => not_last(BoardTick::NoTick, entries),
+        Event::Record(_) => not_last(BoardTick::NoTick, entries),
+    }
+}
+
+// One step back: the board before the event, of its ten numbers and the former ten (of an Input event; else they are not looked at).
+pub fn step_back(board: Board, event: Event, input: [i32; 10], former: [i32; 10]) -> SteppedBack
+    ensures { λ r. ⌜ r ≡ steppedFrom board (stepBack board (eventIs event) input former) ⌝ }
+{
+    let tick = board.tick;
+    let entries = board.entries;
+    if !good_board(board) {
+        return refuse(board, Refusal::BadState);
+    }
+    match tick {
+        BoardTick::In(t) => inside(t, entries, event, input, former),
+        BoardTick::NoTick => outside(entries, event),
+    }
+}

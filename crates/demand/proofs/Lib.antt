@@ -1,0 +1,11 @@
+pub mod Wrap
+pub mod Tests
+pub mod Ten
+pub mod Integers
+pub mod Entries
+pub mod Telling
+pub mod Steps
+pub mod Events
+pub mod Numbers
+pub mod Calls
+pub mod Theorem

@@ -1,0 +1,5 @@
+pub mod Fields
+pub mod Remarks
+pub mod Writing
+pub mod Views
+pub mod Laws

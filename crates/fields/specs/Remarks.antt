@@ -1,0 +1,37 @@
+-- How many of the integers in some fields have a remark. Document 01, "Integers": remarks never refuse.
+use Prim.Native.Nat.{ℕ, _+_}
+use mathlib.Core.List.{List, [], _∷_}
+use Rattle.varint.specs.Integers.{readInt}
+use Rattle.varint.specs.declared.Remark.{Remark}
+use Rattle.varint.specs.declared.Remark.the-variants.{None, Overlong, Padding}
+use Rattle.varint.specs.declared.IntRead.{IntRead}
+use Rattle.varint.specs.declared.IntRead.the-variants as ints
+use Rattle.fields.specs.Fields.{Field, int, dt, mask, str, uuid, blob, args, Reading, got, runsOut, refused, readField}
+
+abbrev pub remarkCount : Remark → ℕ
+remarkCount None = 0
+remarkCount Overlong = 1
+remarkCount Padding = 1
+
+abbrev pub remarkIn : IntRead → ℕ
+remarkIn (ints.Got z next remark) = remarkCount remark
+remarkIn ints.RunsOut = 0
+
+-- data and arguments begin with an integer too
+abbrev pub fieldRemark : Field → List ℕ → ℕ → ℕ
+fieldRemark int s at = remarkIn (readInt s at)
+fieldRemark dt s at = remarkIn (readInt s at)
+fieldRemark mask s at = remarkIn (readInt s at)
+fieldRemark str s at = 0
+fieldRemark uuid s at = 0
+fieldRemark blob s at = remarkIn (readInt s at)
+fieldRemark args s at = remarkIn (readInt s at)
+
+abbrev pub ifGot : {A : Type 0} → Reading A → (ℕ → ℕ) → ℕ
+ifGot (got a next) k = k next
+ifGot runsOut k = 0
+ifGot (refused r) k = 0
+
+abbrev pub remarks : List Field → List ℕ → ℕ → ℕ
+remarks [] s at = 0
+remarks (f ∷ fs) s at = fieldRemark f s at + ifGot (readField f s at) (remarks fs s)

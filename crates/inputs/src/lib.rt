@@ -1,0 +1,158 @@
+// The input records on entries that are lent, with the ten numbers and the former ten. No input record touches the player entries.
+ghost use mathlib.Core.Path.{_≡_};
+ghost use mathlib.Core.List.{List};
+ghost use Prim.Native.Nat.{ℕ, _<_};
+ghost use mathlib.Core.Bool.{cond};
+ghost use lib.Dec.{ltb};
+ghost use lib.IntN.{ℤ};
+ghost use Rattle.fields.specs.Views.{zeros};
+ghost use Rattle.state.specs.State.{memory, tenOf, putTen};
+ghost use Rattle.state.specs.Reading.{sums, inputDiff, inputNew};
+ghost use Rattle.state.specs.Views.{done};
+ghost use Rattle.inputs.specs.Outcomes.{inputOutcome};
+use refusal::Refusal;
+use state::Answer;
+use state::Event;
+use state::Outcome;
+use state::Scalars;
+
+fn take_ten(inputs: &[i32; 1280], c: usize) -> [i32; 10]
+    requires { ⌜ c < 128 ⌝ }
+    ensures { λ r. ⌜ r ≡ tenOf (now (inputs .entry)) c ⌝ }
+{
+    let mut t = [0i32; 10];
+    let mut k: usize = 0;
+    while k < 10 {
+        let x = inputs[10 * c + k];
+        t[k] = x;
+        k += 1;
+    }
+    t
+}
+
+fn put_ten(inputs: &mut [i32; 1280], c: usize, t: [i32; 10])
+    requires { ⌜ c < 128 ⌝ }
+    ensures { λ _. ⌜ now (inputs .exit) ≡ putTen (now (inputs .entry)) c t ⌝ }
+{
+    let mut k: usize = 0;
+    while k < 10 {
+        let x = t[k];
+        inputs[10 * c + k] = x;
+        k += 1;
+    }
+}
+
+// The sums of the former numbers and the differences.
+fn add_ten(f: [i32; 10], d: [i32; 10]) -> [i32; 10]
+    ensures { λ r. ⌜ r ≡ sums f d ⌝ }
+{
+    let mut t = [0i32; 10];
+    let mut k: usize = 0;
+    while k < 10 {
+        let x = num::wrapping_add(f[k], d[k]);
+        t[k] = x;
+        k += 1;
+    }
+    t
+}
+
+fn event(s: Scalars, cid: i32, former: bool, used: usize) -> Outcome
+    ensures { λ r. ⌜ r ≡ inputOutcome s cid former used ⌝ }
+{
+    Outcome {
+        answer: Answer::Event {
+            event: Event::Input { cid, former },
+            used,
+        },
+        scalars: s,
+    }
+}
+
+pub fn input_diff(
+    s: Scalars,
+    held: &mut [u8; 128],
+    inputs: &mut [i32; 1280],
+    input: &mut [i32; 10],
+    former: &mut [i32; 10],
+    cid: i32,
+    ds: [i32; 10],
+    used: usize,
+) -> Outcome
+    ensures { λ r. ⌜
+        ((marks : List ℕ) (xs ys : List ℤ) →
+        done r (memory marks xs ys (now (held .exit)) (now (inputs .exit)) (now (input .exit)) (now (former .exit)))
+        ≡ inputDiff s (memory marks xs ys (now (held .entry)) (now (inputs .entry)) (now (input .entry)) (now (former .entry))) cid ds used)
+        ⌝ }
+{
+    let bits = num::bits(cid);
+    if 2147483648 <= bits {
+        return state::refuse(s, Refusal::InvalidClientId);
+    }
+    if 128 <= bits {
+        return state::refuse(s, Refusal::InputDiffWithoutNew);
+    }
+    let c = bits as usize;
+    if held[c] != 1 {
+        return state::refuse(s, Refusal::InputDiffWithoutNew);
+    }
+    let old = take_ten(&*inputs, c);
+    let new = add_ten(old, ds);
+    put_ten(&mut *inputs, c, new);
+    *input = new;
+    *former = old;
+    held[c] = 1;
+    event(s, cid, true, used)
+}
+
+pub fn input_new(
+    s: Scalars,
+    held: &mut [u8; 128],
+    inputs: &mut [i32; 1280],
+    input: &mut [i32; 10],
+    former: &mut [i32; 10],
+    cid: i32,
+    ns: [i32; 10],
+    used: usize,
+) -> Outcome
+    ensures { λ r. ⌜
+        ((marks : List ℕ) (xs ys : List ℤ) →
+        done r (memory marks xs ys (now (held .exit)) (now (inputs .exit)) (now (input .exit)) (now (former .exit)))
+        ≡ inputNew s (memory marks xs ys (now (held .entry)) (now (inputs .entry)) (now (input .entry)) (now (former .entry))) cid ns used)
+        ⌝ }
+{
+    let bits = num::bits(cid);
+    if 2147483648 <= bits {
+        return state::refuse(s, Refusal::InvalidClientId);
+    }
+    if 128 <= bits {
+        return state::refuse(s, Refusal::ClientTooLarge);
+    }
+    let c = bits as usize;
+    let mark = held[c];
+    let old = take_ten(&*inputs, c);
+    put_ten(&mut *inputs, c, ns);
+    *input = ns;
+    *former = old;
+    held[c] = 1;
+    event(s, cid, mark == 1, used)
+}
+
+// The ten numbers of a client; zeros where it has no entry.
+pub fn ten_at(inputs: &[i32; 1280], c: usize) -> [i32; 10]
+    ensures { λ r. ⌜ r ≡ cond (ltb c 128) (tenOf (now (inputs .entry)) c) (zeros 10) ⌝ }
+{
+    if 128 <= c {
+        return [0; 10];
+    }
+    take_ten(inputs, c)
+}
+
+// The ten numbers of a client become others; nothing changes where it has no entry.
+pub fn put_ten_at(inputs: &mut [i32; 1280], c: usize, t: [i32; 10])
+    ensures { λ _. ⌜ now (inputs .exit) ≡ cond (ltb c 128) (putTen (now (inputs .entry)) c t) (now (inputs .entry)) ⌝ }
+{
+    if 128 <= c {
+        return;
+    }
+    put_ten(inputs, c, t);
+}

@@ -1,0 +1,114 @@
+-- The lines: how long they are, and from which parts they are put. Assumes nothing.
+use Prim.Native.Nat.{ℕ, _+_, _*_, _≤_}
+use mathlib.Core.Path.{_≡_, sym, _∙_, ap}
+use mathlib.Core.List.{List, [], _∷_, _++_, append-assoc}
+use native.Mathlib.Omega.{arith}
+use lib.ListN.{length, length-append}
+use lib.IntN.{ℤ}
+use borrow.Author.Tests.{le-leb, lt-leb}
+use Rattle.refusal.specs.declared.Refusal.the-variants.{ShortTarget}
+use Rattle.varint.specs.declared.Wrote.the-variants.{Past, Refused}
+use Rattle.packer.proofs.Joined.{Put, first-fits, next-fits, two-puts}
+use Rattle.packer.specs.declared.Part.{Part}
+use Rattle.item.specs.Records.{Content}
+use Rattle.item.specs.Contents.{cidOf, tagNumber}
+use Rattle.item.specs.declared.Cid.{Cid}
+use Rattle.item.specs.declared.Cid.the-variants.{Of, NoCid}
+use Rattle.state.specs.Reading.{other}
+use Rattle.lines.specs.Lines.{
+  spaced,
+  numbers,
+  newline,
+  inputWord,
+  recordWord,
+  client,
+  lineOf,
+  longest,
+  lineAnswer,
+  lineTarget,
+}
+use Rattle.lines.proofs.Numbers.{spaced-le}
+
+numbers-le : (ns : List ℤ) → length (numbers ns) ≤ 12 * length ns
+unfolding numbers
+numbers-le [] = omega arith
+numbers-le (z ∷ ns) = omega (arith, length-append (spaced z) (numbers ns), spaced-le z, numbers-le ns)
+
+pub end-le : (ns : List ℤ) → length (numbers ns ++ newline) ≤ 12 * length ns + 1
+end-le ns = omega (arith, length-append (numbers ns) newline, numbers-le ns)
+
+-- a line of few numbers is no longer than the longest
+pub line-fits : (word : List ℕ) (ns : List ℤ) (at size : ℕ) → at + longest ≤ size → length word + 12 * length ns ≤ 137
+    → at + length (word ++ (numbers ns ++ newline)) ≤ size
+line-fits word ns at size h k = omega (arith, length-append word (numbers ns ++ newline), end-le ns)
+
+-- ---- the parts of a line
+
+pub same-text : (xs : List ℕ) (at : ℕ) (a b : List ℕ) → a ≡ b → (next : ℕ) (ys : List ℕ) → Put xs at a next ys → Put xs at b next ys
+same-text xs at a b e next ys p = rw e at p
+
+-- a word, a number and the rest
+module _ (xs : List ℕ) (at : ℕ) (word : List ℕ) (z : ℤ) (rest : List ℕ) (fits : at + length ((word ++ spaced z) ++ rest) ≤ length xs) where
+  head-fits : at + length (word ++ spaced z) ≤ length xs
+  head-fits = first-fits xs at (word ++ spaced z) rest fits
+
+  module _ (n : ℕ) (ys : List ℕ) (p : Put xs at word n ys) where
+    pub number-fits : n + length (spaced z) ≤ length ys
+    number-fits = next-fits xs at word (spaced z) head-fits n ys p
+
+    module _ (m : ℕ) (zs : List ℕ) (q : Put ys n (spaced z) m zs) where
+      head : Put xs at (word ++ spaced z) m zs
+      head = two-puts xs at word (spaced z) head-fits n ys p m zs q
+
+      pub rest-fits : m + length rest ≤ length zs
+      rest-fits = next-fits xs at (word ++ spaced z) rest fits m zs head
+
+      pub rest-put : (text : List ℕ) → (word ++ spaced z) ++ rest ≡ text → (next : ℕ) (us : List ℕ) → Put zs m rest next us → Put xs at text next us
+      rest-put text e next us r =
+          same-text xs at _ text e next us (two-puts xs at (word ++ spaced z) rest fits m zs head next us r)
+
+-- an input
+module _ (z : ℤ) (ten : List ℤ) where
+  pub input-parts : (inputWord ++ spaced z) ++ (numbers ten ++ newline) ≡ inputWord ++ (numbers (z ∷ ten) ++ newline)
+  unfolding numbers
+  input-parts = simp append-assoc
+
+  pub input-fits : (at size : ℕ) → at + longest ≤ size → length ten ≡ 10
+      → at + length ((inputWord ++ spaced z) ++ (numbers ten ++ newline)) ≤ size
+  input-fits at size h e = omega (arith, length-append (spaced z) (numbers ten ++ newline), spaced-le z, end-le ten)
+
+abbrev pub noClient : List ℕ
+noClient = 0x20 ∷ 0x2D ∷ 0x0A ∷ []
+
+pub no-client-fits : (k : ℤ) (at size : ℕ) → at + longest ≤ size → at + length ((recordWord ++ spaced k) ++ noClient) ≤ size
+no-client-fits k at size h = omega (arith, length-append (spaced k) noClient, spaced-le k)
+
+-- a record with a client, and with none
+module _ (k : ℤ) (r : Content Part) (e : k ≡ tagNumber (r .tag)) where
+  told : (i : Cid) → cidOf r ≡ i → recordWord ++ (numbers (k ∷ []) ++ (client i ++ newline)) ≡ lineOf (other r) []
+  told i f =
+      ap (λ (n : ℤ). recordWord ++ (numbers (n ∷ []) ++ (client i ++ newline))) e
+      ∙ ap (λ (i : Cid). recordWord ++ (numbers (tagNumber (r .tag) ∷ []) ++ (client i ++ newline))) (sym f)
+
+  pub client-parts : (z : ℤ) → cidOf r ≡ Of z → recordWord ++ (numbers (k ∷ z ∷ []) ++ newline) ≡ lineOf (other r) []
+  unfolding numbers
+  client-parts z f =
+      let g : recordWord ++ (numbers (k ∷ z ∷ []) ++ newline) ≡ recordWord ++ (numbers (k ∷ []) ++ (client (Of z) ++ newline)) =
+      simp append-assoc in
+      g ∙ told (Of z) f
+
+  pub no-client-parts : cidOf r ≡ NoCid → (recordWord ++ spaced k) ++ noClient ≡ lineOf (other r) []
+  unfolding numbers
+  no-client-parts f =
+      let g : (recordWord ++ spaced k) ++ noClient ≡ recordWord ++ (numbers (k ∷ []) ++ (client NoCid ++ newline)) = simp append-assoc in
+      g ∙ told NoCid f
+
+-- ---- what the public calls answer
+
+module _ (xs : List ℕ) (at : ℕ) (line : List ℕ) where
+  pub too-short : length xs ≤ at + 137 → (Refused ShortTarget ≡ lineAnswer xs at line) × (xs ≡ lineTarget xs at line)
+  too-short h = let t = lt-leb (at + longest) (length xs) (omega arith) in (simp t, simp t)
+
+  pub line-put : at + longest ≤ length xs → (next : ℕ) (ys : List ℕ) → Put xs at line next ys
+      → (Past next ≡ lineAnswer xs at line) × (ys ≡ lineTarget xs at line)
+  line-put h next ys p = let t = le-leb (at + longest) (length xs) h in rw t (ap Past (p .0), p .1)

@@ -1,0 +1,5 @@
+pub mod Rests
+pub mod Inputs
+pub mod Commands
+pub mod Beside
+pub mod Calls

@@ -1,0 +1,10 @@
+pub mod Numbers
+pub mod Marks
+pub mod Ticks
+pub mod Every
+pub mod Board
+pub mod Goods
+pub mod Places
+pub mod Left
+pub mod Calls
+pub mod Theorems

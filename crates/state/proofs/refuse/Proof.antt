@@ -1,0 +1,12 @@
+-- `state::refuse` meets its contract. Assumes nothing.
+use Rattle.state.specs.Reading.{refusal}
+use borrow.Author.Needs.{needs}
+use Rattle.state.proofs.refuse.Statement.{statement}
+use Rattle.state.proofs.refuse.Tie as tie
+
+returns : tie.Need-returns
+unfolding refusal
+returns c m = rw (c .closed .ensures)
+
+pub refuse-spec : {M : Type 1} → statement M
+refuse-spec = tie.close (tie.spec (λ c κs. search needs) returns)

@@ -1,0 +1,46 @@
+-- `state::tick_skip` meets its contract. Assumes nothing.
+use mathlib.Core.Path.{_≡_, sym, ap, _∙_}
+use mir.Syntax.{w32}
+use mir.Val.{toZ, ofZ}
+use Rattle.state.specs.Reading.{nextTick, skipped, tickSkip}
+use Rattle.state.specs.declared.Next.the-variants.{Tick, Past}
+use Rattle.state.proofs.Ticks.{skip-inside, skip-outside}
+use borrow.Author.Needs.{needs}
+use Rattle.state.proofs.tick_skip.Statement.{statement}
+use Rattle.state.proofs.tick_skip.Tie as tie
+
+returns : tie.Need-returns
+unfolding tickSkip
+returns c m =
+    let a = c .before .before .before .before .before .args in
+    let k : toZ w32 (ofZ w32 (a .s .tick)) ≡ a .s .tick = search needs in
+    let n : Past ≡ nextTick (a .s .tick) (a .dt) = sym (c .before .enum-told .given .1) ∙ (rw k at (c .before .before .before .next-tick .ensures)) in
+    c .refuse .ensures m ∙ ap (skipped (a .s) m (a .used)) n
+
+returns-2 : tie.Need-returns-2
+unfolding tickSkip
+returns-2 c m =
+    let a = c .before .before .before .before .before .before .before .args in
+    let g = c .before .before .before .t .given in
+    let k : toZ w32 (ofZ w32 (a .s .tick)) ≡ a .s .tick = search needs in
+    let u : toZ w32 (ofZ w32 (g .0 .0)) ≡ g .0 .0 = search needs in
+    let n : Tick (g .0 .0) ≡ nextTick (a .s .tick) (a .dt) = sym (g .1) ∙ (rw k at (c .before .before .before .before .before .next-tick .ensures)) in
+    rw (k, c .skipped-to .ensures, u)
+    (skip-inside (a .s) m (a .used) (g .0 .0) (c .before .if1 .taken) ∙ ap (skipped (a .s) m (a .used)) n)
+
+returns-3 : tie.Need-returns-3
+unfolding tickSkip
+returns-3 c m =
+    let a = c .before .before .before .before .before .before .before .args in
+    let g = c .before .before .before .t .given in
+    let k : toZ w32 (ofZ w32 (a .s .tick)) ≡ a .s .tick = search needs in
+    let u : toZ w32 (ofZ w32 (g .0 .0)) ≡ g .0 .0 = search needs in
+    let n : Tick (g .0 .0) ≡ nextTick (a .s .tick) (a .dt) = sym (g .1) ∙ (rw k at (c .before .before .before .before .before .next-tick .ensures)) in
+    rw (c .skipped-to2 .ensures, u)
+    (skip-outside (a .s) m (a .used) (g .0 .0) (c .before .if1 .left) ∙ ap (skipped (a .s) m (a .used)) n)
+
+pub tick-skip-spec : {M : Type 1} → statement M
+tick-skip-spec =
+    tie.close
+    (tie.spec (λ c κs. search needs) (λ c. search needs) (λ c. search needs) (λ c κs. search needs) returns
+    (λ c κs. search needs) returns-2 (λ c κs. search needs) returns-3)

@@ -1,0 +1,4 @@
+pub mod State
+pub mod Reading
+pub mod Views
+pub mod Laws

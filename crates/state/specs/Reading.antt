@@ -1,0 +1,309 @@
+-- One reading call: what it says, and what it leaves. Document 01, "Ticks and the board" (rules 1 to 7) and "What a call may say".
+use Prim.Native.Nat.{ℕ, _+_}
+use mathlib.Core.Bool.{Bool, true, false, not, cond}
+use mathlib.Core.List.{List, map}
+use lib.ListN.{getD, drop}
+use lib.Dec.{ltb}
+use lib.IntN.{ℤ, pos, negsuc, _+ℤ_}
+use lib.Signed.{ltZ}
+use Rattle.refusal.specs.declared.Refusal.{Refusal}
+use Rattle.refusal.specs.declared.Refusal.the-variants.{
+  UnexpectedEnd,
+  InvalidClientId,
+  ClientTooLarge,
+  TickOverflow,
+  PlayerNewDuplicate,
+  PlayerDiffWithoutNew,
+  PlayerOldWithoutNew,
+  InputDiffWithoutNew,
+  BadState,
+  Closed,
+}
+use Rattle.num.specs.Wrap.{wrap32}
+use Rattle.packer.specs.declared.Part.{Part}
+use Rattle.fields.specs.Fields.{Value, Reading, got, runsOut, refused}
+use Rattle.fields.specs.Views.{zeros, numbers}
+use Rattle.item.specs.Said.{Said, gives, more, finish, refusing}
+use Rattle.item.specs.Kinds.{readKind}
+use Rattle.item.specs.Records.{Content, content, readRest}
+use Rattle.item.specs.Contents.{cidOf}
+use Rattle.item.specs.declared.Version.{Version}
+use Rattle.item.specs.declared.Kind.{Kind}
+use Rattle.item.specs.declared.Kind.the-variants as kinds
+use Rattle.item.specs.declared.Tag.{Tag}
+use Rattle.item.specs.declared.Tag.the-variants.{Plain, Named, Other}
+use Rattle.item.specs.declared.Cid.{Cid}
+use Rattle.item.specs.declared.Cid.the-variants.{Of, NoCid}
+use Rattle.state.specs.State.{
+  larger,
+  Memory,
+  withEntries,
+  present,
+  xOf,
+  yOf,
+  withPlayer,
+  moved,
+  holds,
+  places,
+  tenOf,
+  withInput,
+  goodReader,
+}
+use Rattle.state.specs.declared.Pending.{Pending}
+use Rattle.state.specs.declared.Pending.the-variants.{Is, NoKind}
+use Rattle.state.specs.declared.Entries.{Entries}
+use Rattle.state.specs.declared.Scalars.{Scalars}
+use Rattle.state.specs.declared.Reader.{Reader}
+use Rattle.state.specs.declared.Next.{Next}
+use Rattle.state.specs.declared.Next.the-variants.{Tick, Past}
+use Rattle.state.specs.declared.Rule.{Rule}
+use Rattle.state.specs.declared.Rule.the-variants.{Reads, Starts, Ends, EndsHere, Over}
+
+-- ---- events, and what a call leaves
+
+-- of an input: the client, and whether it had one before; the ten numbers and the former ten stand in the memory
+pub data Event : Type 0 where
+  tickStart : ℤ → Event
+  tickEnd : ℤ → Event
+  playerNew : ℤ → ℤ → ℤ → Event
+  playerChange : ℤ → ℤ → ℤ → ℤ → ℤ → Event
+  playerOld : ℤ → ℤ → ℤ → Event
+  input : ℤ → Bool → Event
+  other : Content Part → Event
+
+pub record Step : Type 0 where
+  pub said : Said Event
+  pub scalars : Scalars
+  pub memory : Memory
+
+abbrev pub step : Said Event → Scalars → Memory → Step
+step a s m = record { said = a; scalars = s; memory = m }
+
+-- ---- the scalars
+
+abbrev pub scalars : Version → ℤ → Bool → Cid → ℤ → Pending → Bool → Scalars
+scalars v t i p m k c =
+    record { version = v; tick = t; inside = i; remembered = p; largest = m; pending = k; closed = c }
+
+-- after a refusal or finish: closed, with nothing pending
+unfoldable pub closing : Scalars → Scalars
+closing s = scalars (s .version) (s .tick) (s .inside) (s .remembered) (s .largest) NoKind true
+
+abbrev pub raisedTo : ℤ → Cid → ℤ
+raisedTo m (Of c) = larger m c
+raisedTo m NoCid = m
+
+-- after a record: nothing is pending, and the largest client has risen to the record's
+unfoldable pub raising : Cid → Scalars → Scalars
+raising c s = scalars (s .version) (s .tick) (s .inside) (s .remembered) (raisedTo (s .largest) c) NoKind (s .closed)
+
+-- after a player record of the client c, which is remembered too
+unfoldable pub naming : ℤ → Scalars → Scalars
+naming c s = scalars (s .version) (s .tick) (s .inside) (Of c) (larger (s .largest) c) NoKind (s .closed)
+
+-- a tick starts, and the kind is pending
+unfoldable pub starting : Kind → Scalars → Scalars
+starting k s = scalars (s .version) (s .tick) true (s .remembered) (s .largest) (Is k) (s .closed)
+
+-- a tick ends, and the kind is pending: the tick and the remembered client that it leaves
+unfoldable pub ending : ℤ → Cid → Kind → Scalars → Scalars
+ending t p k s = scalars (s .version) t false p (s .largest) (Is k) (s .closed)
+
+-- after a TickSkip: the remembered client stays
+unfoldable pub skipping : ℤ → Bool → Scalars → Scalars
+skipping t i s = scalars (s .version) t i (s .remembered) (s .largest) NoKind (s .closed)
+
+unfoldable pub refusal : Refusal → Scalars → Memory → Step
+refusal r s m = step (refusing r) (closing s) m
+
+-- more changes nothing
+unfoldable pub outOf : Bool → Scalars → Memory → Step
+outOf true s m = refusal UnexpectedEnd s m
+outOf false s m = step more s m
+
+-- k + 1 ticks on, unless that passes 2147483647; a tick below 0 is no good reader's
+unfoldable pub nextTick : ℤ → ℕ → Next
+nextTick (pos t) k = cond (ltb 2147483647 (t + k + 1)) Past (Tick (pos (t + k + 1)))
+nextTick (negsuc t) k = Past
+
+-- ---- a record on a reader; n bytes are used
+
+unfoldable pub playerDiff : Scalars → Memory → ℤ → ℤ → ℤ → ℕ → Step
+playerDiff s m (negsuc c) dx dy n = refusal PlayerDiffWithoutNew s m
+playerDiff s m (pos c) dx dy n =
+    let e = m .entries in
+    let x = wrap32 (xOf e c +ℤ dx) in
+    let y = wrap32 (yOf e c +ℤ dy) in
+    cond (present e c)
+    (step (gives (playerChange (pos c) x y (xOf e c) (yOf e c)) n) s (withEntries (moved e c x y) m))
+    (refusal PlayerDiffWithoutNew s m)
+
+-- 13 overwrites the position first
+unfoldable pub newPlayer : Scalars → Memory → ℤ → ℤ → ℤ → ℕ → Step
+newPlayer s m (negsuc c) x y n = refusal InvalidClientId s m
+newPlayer s m (pos c) x y n =
+    let placed = withEntries (withPlayer (m .entries) c 1 x y) m in
+    cond (ltb c 128)
+    (cond (present (m .entries) c)
+    (refusal PlayerNewDuplicate s placed)
+    (step (gives (playerNew (pos c) x y) n) s placed))
+    (refusal ClientTooLarge s m)
+
+unfoldable pub oldPlayer : Scalars → Memory → ℤ → ℕ → Step
+oldPlayer s m (negsuc c) n = refusal InvalidClientId s m
+oldPlayer s m (pos c) n =
+    let e = m .entries in
+    cond (present e c)
+    (step (gives (playerOld (pos c) (xOf e c) (yOf e c)) n) s (withEntries (withPlayer e c 0 (pos 0) (pos 0)) m))
+    (refusal PlayerOldWithoutNew s m)
+
+-- the sums of ten numbers and ten differences, with wrap at 32 bits
+unfoldable pub sums : List ℤ → List ℤ → List ℤ
+sums a b = map (λ k. wrap32 (getD a k (pos 0) +ℤ getD b k (pos 0))) places
+
+-- the ten numbers become ns; the former stand beside them
+abbrev pub changed : Memory → ℕ → List ℤ → Memory
+changed m c ns =
+    record { entries = withInput (m .entries) c 1 ns; input = ns; former = tenOf (m .entries .inputs) c }
+
+unfoldable pub inputDiff : Scalars → Memory → ℤ → List ℤ → ℕ → Step
+inputDiff s m (negsuc c) ds n = refusal InvalidClientId s m
+inputDiff s m (pos c) ds n =
+    cond (holds (m .entries) c)
+    (step (gives (input (pos c) true) n) s (changed m c (sums (tenOf (m .entries .inputs) c) ds)))
+    (refusal InputDiffWithoutNew s m)
+
+unfoldable pub inputNew : Scalars → Memory → ℤ → List ℤ → ℕ → Step
+inputNew s m (negsuc c) ns n = refusal InvalidClientId s m
+inputNew s m (pos c) ns n =
+    cond (ltb c 128)
+    (step (gives (input (pos c) (holds (m .entries) c)) n) s (changed m c ns))
+    (refusal ClientTooLarge s m)
+
+-- inside, the old tick ends; outside, the new one starts
+abbrev pub skipped : Scalars → Memory → ℕ → Next → Step
+skipped s m n (Tick t) =
+    cond (s .inside)
+    (step (gives (tickEnd (s .tick)) n) (skipping t false s) m)
+    (step (gives (tickStart t) n) (skipping t true s) m)
+skipped s m n Past = refusal TickOverflow s m
+
+abbrev pub dtOf : ℤ → ℕ
+dtOf (pos k) = k
+dtOf (negsuc k) = 0
+
+unfoldable pub tickSkip : Scalars → Memory → ℕ → ℕ → Step
+tickSkip s m dt n = skipped s m n (nextTick (s .tick) dt)
+
+unfoldable pub otherRecord : Scalars → Memory → Content Part → ℕ → Step
+otherRecord s m c n = step (gives (other c) n) (raising (cidOf c) s) m
+
+abbrev pub first : List ℤ → ℤ
+first zs = getD zs 0 (pos 0)
+
+abbrev pub second : List ℤ → ℤ
+second zs = getD zs 1 (pos 0)
+
+-- rules 5 to 7, by the record's kind and its numbers
+abbrev pub applyKind : Kind → Scalars → Memory → Content Part → List ℤ → ℕ → Step
+applyKind (kinds.PlayerDiff cid) s m c zs n = playerDiff (naming cid s) m cid (first zs) (second zs) n
+applyKind kinds.Finish s m c zs n = step (finish n) (closing s) m
+applyKind kinds.TickSkip s m c zs n = tickSkip s m (dtOf (first zs)) n
+applyKind (kinds.PlayerNew cid) s m c zs n = newPlayer (naming cid s) m cid (first zs) (second zs) n
+applyKind (kinds.PlayerOld cid) s m c zs n = oldPlayer (naming cid s) m cid n
+applyKind kinds.InputDiff s m c zs n = inputDiff (raising (Of (first zs)) s) m (first zs) (drop 1 zs) n
+applyKind kinds.InputNew s m c zs n = inputNew (raising (Of (first zs)) s) m (first zs) (drop 1 zs) n
+applyKind kinds.Message s m c zs n = otherRecord s m c n
+applyKind kinds.Join s m c zs n = otherRecord s m c n
+applyKind kinds.Drop s m c zs n = otherRecord s m c n
+applyKind kinds.ConsoleCommand s m c zs n = otherRecord s m c n
+applyKind kinds.Ex s m c zs n = otherRecord s m c n
+
+abbrev pub applyTag : Tag → Scalars → Memory → Content Part → ℕ → Step
+applyTag (Plain k) s m c n = applyKind k s m c (numbers (c .values)) n
+applyTag (Named k) s m c n = otherRecord s m c n
+applyTag Other s m c n = otherRecord s m c n
+
+unfoldable pub apply : Scalars → Memory → Content Part → ℕ → Step
+apply s m c n = applyTag (c .tag) s m c n
+
+-- ---- the tick rules (2 to 4)
+
+abbrev pub endsAt : Next → Rule
+endsAt (Tick t) = Ends t
+endsAt Past = Over
+
+-- a player's client, at or below the remembered one, ends the tick; the next tick is t + 1
+abbrev pub comesAgain : ℤ → Bool → Rule
+comesAgain t true = endsAt (nextTick t 0)
+comesAgain t false = Reads
+
+abbrev pub atOrBelow : ℤ → Cid → Bool
+atOrBelow c NoCid = false
+atOrBelow c (Of p) = not (ltZ p c)
+
+unfoldable pub playerRule : Scalars → ℤ → Rule
+playerRule s c = cond (s .inside) (comesAgain (s .tick) (atOrBelow c (s .remembered))) Starts
+
+-- a kind other than TickSkip and Finish, and of no player, outside a tick
+abbrev pub otherRule : Scalars → Rule
+otherRule s = cond (s .inside) Reads Starts
+
+unfoldable pub tickRule : Scalars → Kind → Rule
+tickRule s (kinds.PlayerDiff c) = playerRule s c
+tickRule s kinds.Finish = cond (s .inside) EndsHere Reads
+tickRule s kinds.TickSkip = Reads
+tickRule s (kinds.PlayerNew c) = playerRule s c
+tickRule s (kinds.PlayerOld c) = playerRule s c
+tickRule s kinds.InputDiff = otherRule s
+tickRule s kinds.InputNew = otherRule s
+tickRule s kinds.Message = otherRule s
+tickRule s kinds.Join = otherRule s
+tickRule s kinds.Drop = otherRule s
+tickRule s kinds.ConsoleCommand = otherRule s
+tickRule s kinds.Ex = otherRule s
+
+-- ---- the call
+
+abbrev pub withRest : Scalars → Memory → Bool → Reading (Content Part) → Step
+withRest s m last (got c n) = apply s m c n
+withRest s m last runsOut = outOf last s m
+withRest s m last (refused r) = refusal r s m
+
+abbrev pub withRule : Scalars → Memory → List ℕ → Bool → Kind → ℕ → Rule → Step
+withRule s m w last k n Reads = withRest s m last (readRest k w n)
+withRule s m w last k n Starts = step (gives (tickStart (s .tick)) n) (starting k s) m
+withRule s m w last k n (Ends t) = step (gives (tickEnd (s .tick)) n) (ending t NoCid k s) m
+withRule s m w last k n EndsHere = step (gives (tickEnd (s .tick)) n) (ending (s .tick) (s .remembered) k s) m
+withRule s m w last k n Over = refusal TickOverflow s m
+
+abbrev pub withKind : Scalars → Memory → List ℕ → Bool → Reading Kind → Step
+withKind s m w last (got k n) = withRule s m w last k n (tickRule s k)
+withKind s m w last runsOut = outOf last s m
+withKind s m w last (refused r) = refusal r s m
+
+-- rule 1: the pending kind is taken, else a kind is read
+unfoldable pub nextKind : Version → Pending → List ℕ → Reading Kind
+nextKind v NoKind w = readKind v w 0
+nextKind v (Is k) w = got k 0
+
+-- a call on an open reader
+unfoldable pub openCall : Scalars → Memory → List ℕ → Bool → Step
+openCall s m w last = withKind s m w last (nextKind (s .version) (s .pending) w)
+
+-- a call on a good reader
+unfoldable pub goodCall : Scalars → Memory → List ℕ → Bool → Step
+goodCall s m w last = cond (s .closed) (step (refusing Closed) s m) (openCall s m w last)
+
+abbrev pub memoryOf : Entries → Memory
+memoryOf e = record { entries = e; input = zeros 10; former = zeros 10 }
+
+-- a call on any reader
+unfoldable pub readCall : Reader → List ℕ → Bool → Step
+readCall r w last =
+    cond (goodReader r)
+    (goodCall (r .scalars) (memoryOf (r .entries)) w last)
+    (step (refusing BadState) (r .scalars) (memoryOf (r .entries)))
+
+abbrev pub readerAfter : Step → Reader
+readerAfter t = record { scalars = t .scalars; entries = t .memory .entries }

@@ -1,0 +1,170 @@
+-- Reader and board: what they hold, the empty ones, which are good (refusal 17 for the others). Document 01, "Ticks and the board".
+use Prim.Native.Nat.{ℕ, zero, suc, _+_, _*_}
+use mathlib.Core.Bool.{Bool, true, false, not, cond, _&&_}
+use mathlib.Core.List.{List, [], _∷_, map}
+use lib.ListN.{getD, set, replicate}
+use lib.Dec.{ltb, eqb}
+use lib.IntN.{ℤ, pos, negsuc}
+use lib.Signed.{leZ, ltZ, nonNeg}
+use Rattle.fields.specs.Views.{zeros}
+use Rattle.item.specs.declared.Version.{Version}
+use Rattle.item.specs.declared.Version.the-variants.{V1, V2}
+use Rattle.item.specs.declared.Kind.{Kind}
+use Rattle.item.specs.declared.Kind.the-variants as kinds
+use Rattle.item.specs.declared.Cid.{Cid}
+use Rattle.item.specs.declared.Cid.the-variants.{Of, NoCid}
+use Rattle.state.specs.declared.Pending.{Pending}
+use Rattle.state.specs.declared.Pending.the-variants.{Is, NoKind}
+use Rattle.state.specs.declared.Entries.{Entries}
+use Rattle.state.specs.declared.Scalars.{Scalars}
+use Rattle.state.specs.declared.Reader.{Reader}
+
+-- ---- numbers
+
+-- two numbers are the same
+abbrev pub same : ℤ → ℤ → Bool
+same (pos a) (pos b) = eqb a b
+same (pos a) (negsuc b) = false
+same (negsuc a) (pos b) = false
+same (negsuc a) (negsuc b) = eqb a b
+
+abbrev pub larger : ℤ → ℤ → ℤ
+larger a b = cond (ltZ a b) b a
+
+-- ---- entries: marks are 0 or 1; those of clients 0 to 127, ten input numbers each
+
+-- all that a reading call works on beside the scalars: the entries; the ten numbers of an Input event, and the former ten
+pub record Memory : Type 0 where
+  pub entries : Entries
+  pub input : List ℤ
+  pub former : List ℤ
+
+abbrev pub entriesWith : List ℕ → List ℤ → List ℤ → List ℕ → List ℤ → Entries
+entriesWith marks xs ys held inputs = record { marks = marks; xs = xs; ys = ys; held = held; inputs = inputs }
+
+abbrev pub memory : List ℕ → List ℤ → List ℤ → List ℕ → List ℤ → List ℤ → List ℤ → Memory
+memory marks xs ys held inputs ten former =
+    record { entries = entriesWith marks xs ys held inputs; input = ten; former = former }
+
+abbrev pub withEntries : Entries → Memory → Memory
+withEntries e m = record { entries = e; input = m .input; former = m .former }
+
+-- a client's player entry
+abbrev pub present : Entries → ℕ → Bool
+present e c = ltb c 128 && eqb (getD (e .marks) c 0) 1
+
+abbrev pub xOf : Entries → ℕ → ℤ
+xOf e c = getD (e .xs) c (pos 0)
+
+abbrev pub yOf : Entries → ℕ → ℤ
+yOf e c = getD (e .ys) c (pos 0)
+
+abbrev pub withPlayer : Entries → ℕ → ℕ → ℤ → ℤ → Entries
+withPlayer e c mark x y =
+    entriesWith (set (e .marks) c mark) (set (e .xs) c x) (set (e .ys) c y) (e .held) (e .inputs)
+
+-- the same entry at another position
+abbrev pub moved : Entries → ℕ → ℤ → ℤ → Entries
+moved e c x y = entriesWith (e .marks) (set (e .xs) c x) (set (e .ys) c y) (e .held) (e .inputs)
+
+-- a client's input entry
+abbrev pub holds : Entries → ℕ → Bool
+holds e c = ltb c 128 && eqb (getD (e .held) c 0) 1
+
+abbrev pub places : List ℕ
+places = 0 ∷ 1 ∷ 2 ∷ 3 ∷ 4 ∷ 5 ∷ 6 ∷ 7 ∷ 8 ∷ 9 ∷ []
+
+-- the ten numbers of a client among the 1280, and the 1280 with others in their place
+unfoldable pub tenOf : List ℤ → ℕ → List ℤ
+tenOf l c = map (λ k. getD l (10 * c + k) (pos 0)) places
+
+abbrev pub puts : List ℤ → ℕ → List ℤ → List ℕ → List ℤ
+puts l c ns [] = l
+puts l c ns (k ∷ ks) = puts (set l (10 * c + k) (getD ns k (pos 0))) c ns ks
+
+unfoldable pub putTen : List ℤ → ℕ → List ℤ → List ℤ
+putTen l c ns = puts l c ns places
+
+abbrev pub withInput : Entries → ℕ → ℕ → List ℤ → Entries
+withInput e c mark ns = entriesWith (e .marks) (e .xs) (e .ys) (set (e .held) c mark) (putTen (e .inputs) c ns)
+
+-- ---- good states
+
+unfoldable pub every : ℕ → (ℕ → Bool) → Bool
+every zero p = true
+every (suc n) p = p n && every n p
+
+-- a mark is 1, or it is 0 and its entry holds zeros
+abbrev pub goodEntry : ℕ → Bool → Bool
+goodEntry mark blank = cond (eqb mark 1) true (eqb mark 0 && blank)
+
+abbrev pub goodPlayer : List ℕ → List ℤ → List ℤ → ℕ → Bool
+goodPlayer marks xs ys i = goodEntry (getD marks i 0) (same (getD xs i (pos 0)) (pos 0) && same (getD ys i (pos 0)) (pos 0))
+
+unfoldable pub goodPlayers : List ℕ → List ℤ → List ℤ → Bool
+goodPlayers marks xs ys = every 128 (goodPlayer marks xs ys)
+
+abbrev pub zeroAt : List ℤ → ℕ → ℕ → Bool
+zeroAt inputs c k = same (getD inputs (10 * c + k) (pos 0)) (pos 0)
+
+unfoldable pub tenZeros : List ℤ → ℕ → Bool
+tenZeros inputs c = every 10 (zeroAt inputs c)
+
+abbrev pub goodInput : List ℕ → List ℤ → ℕ → Bool
+goodInput held inputs i = goodEntry (getD held i 0) (tenZeros inputs i)
+
+unfoldable pub goodInputs : List ℕ → List ℤ → Bool
+goodInputs held inputs = every 128 (goodInput held inputs)
+
+abbrev pub goodEntries : Entries → Bool
+goodEntries e = goodPlayers (e .marks) (e .xs) (e .ys) && goodInputs (e .held) (e .inputs)
+
+abbrev pub hasEx : Version → Bool
+hasEx V1 = false
+hasEx V2 = true
+
+-- no pending PlayerDiff of a negative client, no pending extension in version 1
+abbrev pub goodKind : Version → Kind → Bool
+goodKind v (kinds.PlayerDiff c) = nonNeg c
+goodKind v kinds.Finish = true
+goodKind v kinds.TickSkip = true
+goodKind v (kinds.PlayerNew c) = true
+goodKind v (kinds.PlayerOld c) = true
+goodKind v kinds.InputDiff = true
+goodKind v kinds.InputNew = true
+goodKind v kinds.Message = true
+goodKind v kinds.Join = true
+goodKind v kinds.Drop = true
+goodKind v kinds.ConsoleCommand = true
+goodKind v kinds.Ex = hasEx v
+
+abbrev pub goodPending : Version → Pending → Bool
+goodPending v NoKind = true
+goodPending v (Is k) = goodKind v k
+
+unfoldable pub goodScalars : Scalars → Bool
+goodScalars s =
+    nonNeg (s .tick) && (leZ (negsuc 0) (s .largest) && goodPending (s .version) (s .pending))
+
+unfoldable pub goodReader : Reader → Bool
+goodReader r = goodScalars (r .scalars) && goodEntries (r .entries)
+
+-- ---- the empty reader
+
+unfoldable pub noEntries : Entries
+noEntries = entriesWith (replicate {A = ℕ} 128 0) (zeros 128) (zeros 128) (replicate {A = ℕ} 128 0) (zeros 1280)
+
+abbrev pub start : Version → Scalars
+start v =
+    record {
+      version = v;
+      tick = pos 0;
+      inside = false;
+      remembered = NoCid;
+      largest = negsuc 0;
+      pending = NoKind;
+      closed = false;
+    }
+
+unfoldable pub emptyReader : Version → Reader
+emptyReader v = record { scalars = start v; entries = noEntries }

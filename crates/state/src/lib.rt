@@ -1,0 +1,379 @@
+// The types of the reader, and the steps of its scalars (raw.rs, Reader).
+ghost use mathlib.Core.Path.{_≡_};
+ghost use Prim.Native.Nat.{_<_};
+ghost use Rattle.state.specs.State.{Memory, larger, emptyReader};
+ghost use Rattle.state.specs.Reading.{
+  closing,
+  raisedTo,
+  raising,
+  naming,
+  starting,
+  ending,
+  skipping,
+  refusal,
+  outOf,
+  nextTick,
+  tickSkip,
+  playerRule,
+  otherRule,
+  tickRule,
+};
+ghost use Rattle.state.specs.Views.{done};
+use item::Cid;
+use item::Item;
+use item::Kind;
+use item::Version;
+use refusal::Refusal;
+
+// The kind that was read and whose record was not, or none.
+pub enum Pending {
+    Is(Kind),
+    NoKind,
+}
+
+// The entries of clients 0 to 127: marks are 0 or 1, and an entry whose mark is 0 holds zeros; ten input numbers each.
+pub struct Entries {
+    pub marks: [u8; 128],
+    pub xs: [i32; 128],
+    pub ys: [i32; 128],
+    pub held: [u8; 128],
+    pub inputs: [i32; 1280],
+}
+
+pub struct Scalars {
+    pub version: Version,
+    pub tick: i32,
+    pub inside: bool,
+    pub remembered: Cid,
+    pub largest: i32,
+    pub pending: Pending,
+    pub closed: bool,
+}
+
+pub struct Reader {
+    pub scalars: Scalars,
+    pub entries: Entries,
+}
+
+impl Reader {
+    // Tick 0, outside a tick, no remembered client, no pending kind, largest client -1, nobody present.
+    pub fn empty(version: Version) -> Reader
+        ensures { λ r. ⌜ r ≡ emptyReader version ⌝ }
+    {
+        Reader {
+            scalars: Scalars {
+                version,
+                tick: 0,
+                inside: false,
+                remembered: Cid::NoCid,
+                largest: -1,
+                pending: Pending::NoKind,
+                closed: false,
+            },
+            entries: Entries {
+                marks: [0; 128],
+                xs: [0; 128],
+                ys: [0; 128],
+                held: [0; 128],
+                inputs: [0; 1280],
+            },
+        }
+    }
+}
+
+// What a reading call finds. The ten numbers of an input and the former ten stand beside it, and the arguments of a command.
+pub enum Event {
+    TickStart(i32),
+    TickEnd(i32),
+    PlayerNew {
+        cid: i32,
+        x: i32,
+        y: i32,
+    },
+    PlayerChange {
+        cid: i32,
+        x: i32,
+        y: i32,
+        old_x: i32,
+        old_y: i32,
+    },
+    PlayerOld {
+        cid: i32,
+        x: i32,
+        y: i32,
+    },
+    Input {
+        cid: i32,
+        former: bool,
+    },
+    Record(Item),
+}
+
+pub enum Answer {
+    Event { event: Event, used: usize },
+    More,
+    Finish { used: usize },
+    Refused(Refusal),
+}
+
+// What a call on lent entries answers, and the scalars that it leaves.
+pub struct Outcome {
+    pub answer: Answer,
+    pub scalars: Scalars,
+}
+
+// What the tick rules say of a kind: the record is read; a tick starts; a tick ends and the number is the next one; a tick ends at
+// Finish; the tick would pass the last.
+pub enum Rule {
+    Reads,
+    Starts,
+    Ends(i32),
+    EndsHere,
+    Over,
+}
+
+// A tick, or that it would pass the last.
+pub enum Next {
+    Tick(i32),
+    Past,
+}
+
+// After a refusal or finish: closed, with nothing pending.
+pub fn closed(s: Scalars) -> Scalars
+    ensures { λ r. ⌜ r ≡ closing s ⌝ }
+{
+    let version = s.version;
+    let remembered = s.remembered;
+    Scalars {
+        version,
+        tick: s.tick,
+        inside: s.inside,
+        remembered,
+        largest: s.largest,
+        pending: Pending::NoKind,
+        closed: true,
+    }
+}
+
+pub fn refuse(s: Scalars, why: Refusal) -> Outcome
+    ensures { λ r. ⌜ ((m : Memory) → done r m ≡ refusal why s m) ⌝ }
+{
+    let scalars = closed(s);
+    Outcome {
+        answer: Answer::Refused(why),
+        scalars,
+    }
+}
+
+// The bytes needed run out: more, or 3 where no more come.
+pub fn run_out(s: Scalars, last: bool) -> Outcome
+    ensures { λ r. ⌜ ((m : Memory) → done r m ≡ outOf last s m) ⌝ }
+{
+    if last {
+        return refuse(s, Refusal::UnexpectedEnd);
+    }
+    Outcome {
+        answer: Answer::More,
+        scalars: s,
+    }
+}
+
+fn larger_of(a: i32, b: i32) -> i32
+    ensures { λ r. ⌜ r ≡ larger a b ⌝ }
+{
+    if a < b { b } else { a }
+}
+
+fn raised_to(largest: i32, cid: Cid) -> i32
+    ensures { λ r. ⌜ r ≡ raisedTo largest cid ⌝ }
+{
+    let Cid::Of(c) = cid else {
+        return largest;
+    };
+    larger_of(largest, c)
+}
+
+// After a record whose client this is.
+pub fn raised(s: Scalars, cid: Cid) -> Scalars
+    ensures { λ r. ⌜ r ≡ raising cid s ⌝ }
+{
+    let version = s.version;
+    let remembered = s.remembered;
+    let largest = raised_to(s.largest, cid);
+    Scalars {
+        version,
+        tick: s.tick,
+        inside: s.inside,
+        remembered,
+        largest,
+        pending: Pending::NoKind,
+        closed: s.closed,
+    }
+}
+
+// After a player record of a client.
+pub fn named(s: Scalars, cid: i32) -> Scalars
+    ensures { λ r. ⌜ r ≡ naming cid s ⌝ }
+{
+    let version = s.version;
+    let largest = larger_of(s.largest, cid);
+    Scalars {
+        version,
+        tick: s.tick,
+        inside: s.inside,
+        remembered: Cid::Of(cid),
+        largest,
+        pending: Pending::NoKind,
+        closed: s.closed,
+    }
+}
+
+// A tick starts, and the kind is pending.
+pub fn started(s: Scalars, kind: Kind) -> Scalars
+    ensures { λ r. ⌜ r ≡ starting kind s ⌝ }
+{
+    let version = s.version;
+    let remembered = s.remembered;
+    Scalars {
+        version,
+        tick: s.tick,
+        inside: true,
+        remembered,
+        largest: s.largest,
+        pending: Pending::Is(kind),
+        closed: s.closed,
+    }
+}
+
+// A tick ends, and the kind is pending.
+pub fn ended(s: Scalars, tick: i32, remembered: Cid, kind: Kind) -> Scalars
+    ensures { λ r. ⌜ r ≡ ending tick remembered kind s ⌝ }
+{
+    let version = s.version;
+    Scalars {
+        version,
+        tick,
+        inside: false,
+        remembered,
+        largest: s.largest,
+        pending: Pending::Is(kind),
+        closed: s.closed,
+    }
+}
+
+fn skipped_to(s: Scalars, tick: i32, inside: bool) -> Scalars
+    ensures { λ r. ⌜ r ≡ skipping tick inside s ⌝ }
+{
+    let version = s.version;
+    let remembered = s.remembered;
+    Scalars {
+        version,
+        tick,
+        inside,
+        remembered,
+        largest: s.largest,
+        pending: Pending::NoKind,
+        closed: s.closed,
+    }
+}
+
+fn wide(x: u32) -> u64
+    ensures { λ r. ⌜ (r ≡ x) × (r < 4294967296) ⌝ }
+{
+    x as u64
+}
+
+fn next_tick(tick: i32, k: u32) -> Next
+    ensures { λ r. ⌜ r ≡ nextTick tick k ⌝ }
+{
+    let b = wide(num::bits(tick));
+    if 2147483648 <= b {
+        return Next::Past;
+    }
+    let to = b + wide(k) + 1;
+    if 2147483648 <= to {
+        return Next::Past;
+    }
+    Next::Tick(to as i32)
+}
+
+pub fn tick_skip(s: Scalars, dt: u32, used: usize) -> Outcome
+    ensures { λ r. ⌜ ((m : Memory) → done r m ≡ tickSkip s m dt used) ⌝ }
+{
+    let tick = s.tick;
+    let Next::Tick(t) = next_tick(tick, dt) else {
+        return refuse(s, Refusal::TickOverflow);
+    };
+    if s.inside {
+        let scalars = skipped_to(s, t, false);
+        return Outcome {
+            answer: Answer::Event {
+                event: Event::TickEnd(tick),
+                used,
+            },
+            scalars,
+        };
+    }
+    let scalars = skipped_to(s, t, true);
+    Outcome {
+        answer: Answer::Event {
+            event: Event::TickStart(t),
+            used,
+        },
+        scalars,
+    }
+}
+
+fn player_rule(s: Scalars, cid: i32) -> Rule
+    ensures { λ r. ⌜ r ≡ playerRule s cid ⌝ }
+{
+    if !s.inside {
+        return Rule::Starts;
+    }
+    let prev = s.remembered;
+    let Cid::Of(p) = prev else {
+        return Rule::Reads;
+    };
+    if p < cid {
+        return Rule::Reads;
+    }
+    let tick = s.tick;
+    let Next::Tick(t) = next_tick(tick, 0) else {
+        return Rule::Over;
+    };
+    Rule::Ends(t)
+}
+
+fn other_rule(s: Scalars) -> Rule
+    ensures { λ r. ⌜ r ≡ otherRule s ⌝ }
+{
+    if s.inside {
+        return Rule::Reads;
+    }
+    Rule::Starts
+}
+
+// The tick rules.
+pub fn tick_rule(s: Scalars, kind: Kind) -> Rule
+    ensures { λ r. ⌜ r ≡ tickRule s kind ⌝ }
+{
+    match kind {
+        Kind::PlayerDiff(cid) => player_rule(s, cid),
+        Kind::Finish => {
+            if s.inside {
+                return Rule::EndsHere;
+            }
+            Rule::Reads
+        }
+        Kind::TickSkip => Rule::Reads,
+        Kind::PlayerNew(cid) => player_rule(s, cid),
+        Kind::PlayerOld(cid) => player_rule(s, cid),
+        Kind::InputDiff => other_rule(s),
+        Kind::InputNew => other_rule(s),
+        Kind::Message => other_rule(s),
+        Kind::Join => other_rule(s),
+        Kind::Drop => other_rule(s),
+        Kind::ConsoleCommand => other_rule(s),
+        Kind::Ex => other_rule(s),
+    }
+}

@@ -1,0 +1,173 @@
+-- Records that change no entry: their client stands among the values that the record itself has. Assumes nothing.
+use Prim.Native.Nat.{ℕ, zero, suc}
+use mathlib.Core.Path.{_≡_, refl, sym, ap, _∙_}
+use mathlib.Core.Bool.{Bool, true, false, cond, _&&_}
+use mathlib.Core.List.{List, [], _∷_, _++_}
+use native.Mathlib.Omega.{arith}
+use lib.ListN.{length, take, getD}
+use lib.IntN.{ℤ}
+use Rattle.packer.specs.Parts.{shown, readRaw, readData}
+use Rattle.packer.specs.declared.Part.{Part}
+use Rattle.packer.specs.declared.PartRead.{PartRead}
+use Rattle.packer.specs.declared.PartRead.the-variants as parts
+use Rattle.fields.specs.Fields.{Value, num, bytes, strings, Reading, got, runsOut, refused, readFields}
+use Rattle.item.specs.Said.{gives}
+use Rattle.item.specs.Extensions.{Payload, shaped, whole, unknown, Extension, extensions, noExtension, payloadAt, hasClient, find}
+use Rattle.item.specs.Records.{Content, content, Rest, fields, extension, restOf, readAs, asContent, upTo, ofPayload, afterData, afterId, readEx, readRest}
+use Rattle.item.specs.Contents.{firstNumber, tagCid, cidOf, ownPayload, ownFields}
+use Rattle.item.specs.declared.Kind.{Kind}
+use Rattle.item.specs.declared.Kind.the-variants as kinds
+use Rattle.item.specs.declared.Tag.{Tag}
+use Rattle.item.specs.declared.Tag.the-variants.{Plain, Named, Other}
+use Rattle.item.specs.declared.Cid.{Cid}
+use Rattle.item.specs.declared.Cid.the-variants.{Of, NoCid}
+use Rattle.records.specs.Views.{ownContent, own, itemIs}
+use Rattle.records.specs.declared.ItemRead.{ItemRead}
+use Rattle.state.specs.State.{Memory}
+use Rattle.state.specs.Reading.{Step, step, other, raising, refusal, outOf, otherRecord, applyTag, apply, withRest}
+use Rattle.state.specs.Views.{slimStep}
+use Rattle.state.specs.declared.Scalars.{Scalars}
+use Rattle.state.proofs.Every.{left-of, right-of}
+use Rattle.step.specs.Kinds.{isOther}
+use Rattle.step.proofs.Slim.{slim-calm, calm-refusal, calm-out}
+
+-- ---- the kinds and tags of these records
+
+no-other : {C : Type 0} → false ≡ true → C
+no-other e = let z : _≡_ {A = ℕ} 0 1 = cc in absurd (omega arith)
+
+module _ (P : Kind → Type 0) (message : P kinds.Message) (join : P kinds.Join) (drop : P kinds.Drop) (command : P kinds.ConsoleCommand)
+    (ex : P kinds.Ex)
+  where
+    pub by-other : (k : Kind) → isOther k ≡ true → P k
+    by-other (kinds.PlayerDiff c) o = no-other o
+    by-other kinds.Finish o = no-other o
+    by-other kinds.TickSkip o = no-other o
+    by-other (kinds.PlayerNew c) o = no-other o
+    by-other (kinds.PlayerOld c) o = no-other o
+    by-other kinds.InputDiff o = no-other o
+    by-other kinds.InputNew o = no-other o
+    by-other kinds.Message o = message
+    by-other kinds.Join o = join
+    by-other kinds.Drop o = drop
+    by-other kinds.ConsoleCommand o = command
+    by-other kinds.Ex o = ex
+
+abbrev otherTag : Tag → Bool
+otherTag (Plain k) = isOther k
+otherTag (Named k) = true
+otherTag Other = true
+
+abbrev OtherRest : Reading (Content Part) → Type 0
+OtherRest (got c n) = otherTag (c .tag) ≡ true
+OtherRest runsOut = Unit
+OtherRest (refused r) = Unit
+
+plain-other : (k : Kind) (x : Reading (List (Value Part))) → isOther k ≡ true → OtherRest (asContent (Plain k) x)
+plain-other k (got vs n) o = o
+plain-other k runsOut o = tt
+plain-other k (refused r) o = tt
+
+upto-other : (k end : ℕ) (x : Reading (List (Value Part))) → OtherRest (upTo end (asContent (Named k) x))
+upto-other k end (got vs n) = refl
+upto-other k end runsOut = tt
+upto-other k end (refused r) = tt
+
+payload-other : (w : List ℕ) (id p : Part) (k : ℕ) (y : Payload) (next : ℕ) → OtherRest (ofPayload w id p k y next)
+payload-other w id p k (shaped fs) next = upto-other k next (readFields fs (take next w) (p .at))
+payload-other w id p k whole next = refl
+payload-other w id p k unknown next = refl
+
+data-other : (w : List ℕ) (id : Part) (x : PartRead) → OtherRest (afterData w id x)
+data-other w id (parts.Got p next) = payload-other w id p (find (shown w id)) (payloadAt (find (shown w id))) next
+data-other w id parts.RunsOut = tt
+
+id-other : (w : List ℕ) (x : PartRead) → OtherRest (afterId w x)
+id-other w (parts.Got id next) = data-other w id (readData w next)
+id-other w parts.RunsOut = tt
+
+ex-other : (w : List ℕ) (at : ℕ) → OtherRest (readEx w at)
+unfolding readEx
+ex-other w at = id-other w (readRaw 16 w at)
+
+as-other : (k : Kind) (r : Rest) (w : List ℕ) (at : ℕ) → isOther k ≡ true → OtherRest (readAs w k r at)
+as-other k (fields fs gs) w at o = plain-other k (readFields (fs ++ gs) w at) o
+as-other k extension w at o = ex-other w at
+
+rest-other : (k : Kind) (w : List ℕ) (at : ℕ) → isOther k ≡ true → OtherRest (readRest k w at)
+unfolding readRest
+rest-other k w at o = as-other k (restOf k) w at o
+
+-- ---- the first number stays, since no extension is without fields
+
+abbrev First : ℕ → Type 0
+First n = (vs : List (Value Part)) → firstNumber (take n vs) ≡ firstNumber vs
+
+first-more : (n : ℕ) → First (suc n)
+first-more n [] = refl
+first-more n (num z ∷ vs) = refl
+first-more n (bytes p ∷ vs) = refl
+first-more n (strings ps ∷ vs) = refl
+
+abbrev full : Payload → Bool
+full (shaped []) = false
+full (shaped (f ∷ fs)) = true
+full whole = true
+full unknown = true
+
+first-payload : (p : Payload) → full p ≡ true → First (length (ownPayload p))
+first-payload (shaped []) e = no-other e
+first-payload (shaped (f ∷ fs)) e = first-more (length fs)
+first-payload whole e = first-more 0
+first-payload unknown e = first-more 1
+
+abbrev allFull : List Extension → Bool
+allFull [] = true
+allFull (x ∷ xs) = full (x .payload) && allFull xs
+
+full-at : (xs : List Extension) (k : ℕ) → allFull xs ≡ true → full (getD xs k noExtension .payload) ≡ true
+full-at [] k e = refl
+full-at (x ∷ xs) zero e = left-of (full (x .payload)) (allFull xs) e
+full-at (x ∷ xs) (suc k) e = full-at xs k (right-of (full (x .payload)) (allFull xs) e)
+
+first-named : (k : ℕ) → First (length (ownPayload (payloadAt k)))
+unfolding payloadAt extensions
+first-named k = first-payload (payloadAt k) (full-at extensions k refl)
+
+cid-tag : (t : Tag) (vs : List (Value Part)) → otherTag t ≡ true → tagCid t (firstNumber (take (length (ownFields t)) vs)) ≡ tagCid t (firstNumber vs)
+cid-tag (Plain k) vs o =
+    by-other (λ k. tagCid (Plain k) (firstNumber (take (length (ownFields (Plain k))) vs)) ≡ tagCid (Plain k) (firstNumber vs))
+    (ap Of (first-more 1 vs)) (ap Of (first-more 0 vs)) (ap Of (first-more 1 vs)) (ap Of (first-more 2 vs)) refl k o
+cid-tag (Named k) vs o = ap (λ (z : ℤ). cond (hasClient k) (Of z) NoCid) (first-named k vs)
+cid-tag Other vs o = refl
+
+-- ---- what such a record changes
+
+module _ (s : Scalars) (m : Memory) where
+  apply-tag : (t : Tag) (c : Content Part) (n : ℕ) → otherTag t ≡ true → applyTag t s m c n ≡ otherRecord s m c n
+  apply-tag (Plain k) c n o = by-other (λ k. applyTag (Plain k) s m c n ≡ otherRecord s m c n) refl refl refl refl refl k o
+  apply-tag (Named k) c n o = refl
+  apply-tag Other c n o = refl
+
+  apply-other : (c : Content Part) (n : ℕ) → otherTag (c .tag) ≡ true
+      → step (gives (other (ownContent c)) n) (raising (cidOf (ownContent c)) s) m ≡ slimStep (apply s m c n)
+  unfolding apply otherRecord
+  apply-other c n o =
+      ap (λ (i : Cid). step (gives (other (ownContent c)) n) (raising i s) m) (cid-tag (c .tag) (c .values) o)
+      ∙ ap slimStep (sym (apply-tag (c .tag) c n o))
+
+  module _ (last : Bool) where
+    abbrev afterItem : Reading (Content Part) → Step
+    afterItem (got c n) = step (gives (other c) n) (raising (cidOf c) s) m
+    afterItem runsOut = outOf last s m
+    afterItem (refused r) = refusal r s m
+
+    other-step : (x : Reading (Content Part)) → OtherRest x → afterItem (own x) ≡ slimStep (withRest s m last x)
+    other-step (got c n) o = apply-other c n o
+    other-step runsOut o = sym (slim-calm _ (calm-out last s m))
+    other-step (refused r) o = sym (slim-calm _ (calm-refusal r s m))
+
+    pub other-rest : (w : List ℕ) (at : ℕ) (k : Kind) → isOther k ≡ true → (r i : ItemRead) → itemIs r ≡ own (readRest k w at) → r ≡ i
+        → afterItem (itemIs i) ≡ slimStep (withRest s m last (readRest k w at))
+    other-rest w at k o r i e f =
+        ap afterItem (ap itemIs (sym f) ∙ e) ∙ other-step (readRest k w at) (rest-other k w at o)

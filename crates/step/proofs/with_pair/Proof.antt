@@ -1,0 +1,54 @@
+-- `step::with_pair` meets its contract. Assumes nothing.
+use mathlib.Core.Path.{_≡_, sym, _∙_}
+use mathlib.Core.Bool.{true, false}
+use borrow.Author.Needs.{needs}
+use mir.Syntax.{w32}
+use mir.Val.{toZ, ofZ}
+use Rattle.state.specs.State.{memory}
+use Rattle.state.proofs.Numbers.{element}
+use Rattle.step.proofs.Rests.{pair-out, pair-got}
+use Rattle.step.proofs.with_pair.Statement.{statement}
+use Rattle.step.proofs.with_pair.Tie as tie
+
+returns : tie.Need-returns
+returns c held inputs input former =
+    let r = c .before .before .before in
+    let a = r .before .before .args in
+    let m = memory (a .marks .now) (a .xs .now) (a .ys .now) held inputs input former in
+    c .run-out .ensures m ∙ pair-out (a .s) m (a .last) (a .w .now) (a .at) (a .new) (a .cid) _ (r .read-shape .ensures .values) (c .before .enum-told .given .1)
+
+returns-2 : tie.Need-returns-2
+returns-2 c held inputs input former =
+    let n = c .before .before .before .before .before in
+    let g = n .before .before .before .before .fields .given in
+    let r = n .before .before .before .before .before .before in
+    let st = r .before .before in
+    let a = st .args in
+    let m = memory (a .marks .now) (a .xs .now) (a .ys .now) held inputs input former in
+    let k : toZ w32 (ofZ w32 (a .cid)) ≡ a .cid = search needs in
+    let x : toZ w32 (ofZ w32 (g .0 .0 .first)) ≡ g .0 .0 .first = search needs in
+    let y = element (g .0 .0 .second) (n .before .struct-told2 .given .1 .0 .1) in
+    rw (c .before .before .before .before .if1 .taken)
+    ((rw (n .named .ensures, k, x, y) at (c .player-new .ensures held inputs input former))
+    ∙ pair-got (a .s) m (a .last) (a .w .now) (a .at) true (a .cid) _ (r .read-shape .ensures .values) (g .0 .0) (g .0 .1 .0) (g .1))
+
+returns-3 : tie.Need-returns-3
+returns-3 c held inputs input former =
+    let n = c .before .before .before .before .before in
+    let g = n .before .before .before .before .fields .given in
+    let r = n .before .before .before .before .before .before in
+    let st = r .before .before in
+    let a = st .args in
+    let m = memory (a .marks .now) (a .xs .now) (a .ys .now) held inputs input former in
+    let k : toZ w32 (ofZ w32 (a .cid)) ≡ a .cid = search needs in
+    let x : toZ w32 (ofZ w32 (g .0 .0 .first)) ≡ g .0 .0 .first = search needs in
+    let y = element (g .0 .0 .second) (n .before .struct-told2 .given .1 .0 .1) in
+    rw (c .before .before .before .before .if1 .left)
+    ((rw (n .named .ensures, k, x, y) at (c .player-diff .ensures held inputs input former))
+    ∙ pair-got (a .s) m (a .last) (a .w .now) (a .at) false (a .cid) _ (r .read-shape .ensures .values) (g .0 .0) (g .0 .1 .0) (g .1))
+
+pub with-pair-spec : {M : Type 1} → statement M
+with-pair-spec =
+    tie.close
+    (tie.spec (λ c κs. search needs) (λ c. search needs) (λ c. search needs) (λ c κs. search needs) returns
+    (λ c κs. search needs) (λ c κs. search needs) returns-2 (λ c κs. search needs) returns-3)

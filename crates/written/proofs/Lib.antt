@@ -1,0 +1,11 @@
+pub mod Back
+pub mod Calls
+pub mod Frames
+pub mod KindLaws
+pub mod Known
+pub mod Rewritten
+pub mod Steady
+pub mod Theorems
+pub mod Typed
+pub mod Whole
+pub mod Windows

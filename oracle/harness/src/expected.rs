@@ -1,0 +1,72 @@
+//! What the replay program must print: libtw2's answers, with the two ends that libtw2 does not have.
+
+use crate::run::Answer;
+use crate::run::Pace;
+use crate::run::Run;
+use crate::text;
+use libtw2_teehistorian::raw::Item;
+
+const WINDOW: usize = 65536;
+const LARGEST_CLIENT: i32 = 127;
+
+#[derive(Clone, Copy, PartialEq)]
+pub enum Left {
+    /// libtw2 takes a client above 127, where the replay program refuses 10.
+    Client,
+    /// A call needs more than a window.
+    TooLong,
+}
+
+pub struct Expected {
+    pub text: String,
+    /// How the body left the domain of comparison, if it did.
+    pub left: Option<Left>,
+}
+
+pub fn expected(input: &[u8]) -> Expected {
+    let run = input.split_first().and_then(|(version, body)| {
+        let pace = if body.len() < WINDOW {
+            Pace::Whole
+        } else {
+            Pace::AtMost(WINDOW)
+        };
+        Run::new(*version, body, pace)
+    });
+    match run {
+        Some(run) => lines(run),
+        None => Expected {
+            text: "refused 2\n".to_string(),
+            left: None,
+        },
+    }
+}
+
+fn lines(mut run: Run) -> Expected {
+    let mut text = String::new();
+    loop {
+        let (line, left) = match run.call() {
+            Answer::Event(event) if has_large_client(&event) => {
+                ("refused 10".to_string(), Some(Left::Client))
+            }
+            Answer::Event(event) => {
+                text.push_str(&text::event(&event));
+                text.push('\n');
+                continue;
+            }
+            Answer::Finish => ("finish".to_string(), None),
+            Answer::Refused(number) => (format!("refused {number}"), None),
+            Answer::Stopped => ("too long".to_string(), Some(Left::TooLong)),
+        };
+        text.push_str(&line);
+        text.push('\n');
+        return Expected { text, left };
+    }
+}
+
+fn has_large_client(event: &Item) -> bool {
+    match event {
+        Item::PlayerNew(i) => i.cid > LARGEST_CLIENT,
+        Item::Input(i) => i.cid > LARGEST_CLIENT,
+        _ => false,
+    }
+}

@@ -1,0 +1,141 @@
+//! One reading of a body by libtw2's reader, call by call.
+
+use libtw2_teehistorian::format;
+use libtw2_teehistorian::format::item;
+use libtw2_teehistorian::raw;
+use std::borrow::Cow;
+use std::collections::HashMap;
+
+/// How the bytes are handed to the reader.
+#[derive(Clone, Copy)]
+pub enum Pace {
+    /// As many as it has room for.
+    Whole,
+    /// One for each request, so that the requests of a call are the bytes that it uses.
+    Single,
+    /// One for each request, and none beyond this many in one call.
+    AtMost(usize),
+}
+
+pub enum Answer<'a> {
+    Event(raw::Item<'a>),
+    Finish,
+    Refused(u8),
+    /// The call asked for more bytes than its pace allows.
+    Stopped,
+}
+
+pub struct Run<'b> {
+    reader: raw::Reader,
+    buffer: raw::Buffer,
+    source: Source<'b>,
+}
+
+impl<'b> Run<'b> {
+    /// None if the reader does not take the version.
+    pub fn new(version: u8, body: &'b [u8], pace: Pace) -> Option<Run<'b>> {
+        let reader = raw::Reader::from_header(&header(version)).ok()?;
+        Some(Run {
+            reader,
+            buffer: raw::Buffer::new(),
+            source: Source {
+                body,
+                place: 0,
+                pace,
+                requests: 0,
+            },
+        })
+    }
+    /// libtw2's own call.
+    pub fn read(&mut self) -> Result<Option<raw::Item<'_>>, raw::Error<Stop>> {
+        self.source.requests = 0;
+        self.reader.read(&mut self.source, &mut self.buffer)
+    }
+    pub fn call(&mut self) -> Answer<'_> {
+        match self.read() {
+            Ok(Some(item)) => Answer::Event(item),
+            Ok(None) => Answer::Finish,
+            Err(raw::Error::Teehistorian(error)) => Answer::Refused(refusal(&error)),
+            Err(raw::Error::Cb(Stop)) => Answer::Stopped,
+        }
+    }
+    /// How many bytes the reader has been handed.
+    pub fn place(&self) -> usize {
+        self.source.place
+    }
+    pub fn reader(&self) -> &raw::Reader {
+        &self.reader
+    }
+}
+
+struct Source<'b> {
+    body: &'b [u8],
+    place: usize,
+    pace: Pace,
+    requests: usize,
+}
+
+#[derive(Debug)]
+pub struct Stop;
+
+impl<'b> raw::Callback for Source<'b> {
+    type Error = Stop;
+    fn read_at_most(&mut self, room: &mut [u8]) -> Result<Option<usize>, Stop> {
+        self.requests += 1;
+        let most = match self.pace {
+            Pace::Whole => room.len(),
+            Pace::Single => 1,
+            Pace::AtMost(limit) if self.requests <= limit => 1,
+            Pace::AtMost(_) => return Err(Stop),
+        };
+        let left = &self.body[self.place..];
+        let count = most.min(left.len());
+        if count == 0 {
+            return Ok(None);
+        }
+        room[..count].copy_from_slice(&left[..count]);
+        self.place += count;
+        Ok(Some(count))
+    }
+}
+
+/// The numbers that the project gives to libtw2's errors.
+fn refusal(error: &format::Error) -> u8 {
+    match error {
+        format::Error::UnknownVersion => 2,
+        format::Error::UnexpectedEnd => 3,
+        format::Error::Item(error) => record_refusal(error),
+        format::Error::InvalidClientId => 8,
+        format::Error::TickOverflow => 12,
+        format::Error::PlayerNewDuplicate => 13,
+        format::Error::PlayerDiffWithoutNew => 14,
+        format::Error::PlayerOldWithoutNew => 15,
+        format::Error::InputDiffWithoutNew => 16,
+        format::Error::Header(_) => unreachable!("no header is read"),
+        format::Error::InputNewDuplicate => unreachable!("libtw2 gives it nowhere"),
+    }
+}
+
+pub fn record_refusal(error: &item::Error) -> u8 {
+    match error {
+        item::Error::UnknownType(_) => 4,
+        item::Error::NegativeDt => 5,
+        item::Error::NegativeNumArgs => 6,
+        item::Error::NumArgsTooLarge => 7,
+    }
+}
+
+/// A header of which only the version matters.
+fn header(version: u8) -> format::Header<'static> {
+    format::Header {
+        version: version.into(),
+        game_uuid: uuid::Uuid::nil(),
+        timestamp: chrono::DateTime::default(),
+        server_port: 0,
+        map_name: Cow::Borrowed(""),
+        map_size: 0,
+        map_sha256: None,
+        map_crc: 0,
+        config: HashMap::new(),
+    }
+}
