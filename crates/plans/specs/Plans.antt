@@ -26,15 +26,15 @@ use Rattle.plans.specs.declared.Left.the-variants.{Room, Short}
 abbrev pub planWith : Bool → Bool → Bool → Text → Tail → Plan
 planWith a u b t rest = record { first = a; uuid = u; second = b; text = t; tail = rest }
 
-abbrev pub planOf : Shape → Plan
-planOf Nothing = planWith false false false Absent tails.Nothing
-planOf Int = planWith true false false Absent tails.Nothing
-planOf IntInt = planWith true false true Absent tails.Nothing
-planOf IntStr = planWith true false false Str tails.Nothing
-planOf IntIntStr = planWith true false true Str tails.Nothing
-planOf IntUuidStr = planWith true true false Str tails.Nothing
-planOf IntUuidIntStr = planWith true true true Str tails.Nothing
-planOf IntData = planWith true false false Data tails.Nothing
+abbrev pub planOf : Shape → Tail → Plan
+planOf Nothing t = planWith false false false Absent t
+planOf Int t = planWith true false false Absent t
+planOf IntInt t = planWith true false true Absent t
+planOf IntStr t = planWith true false false Str t
+planOf IntIntStr t = planWith true false true Str t
+planOf IntUuidStr t = planWith true true false Str t
+planOf IntUuidIntStr t = planWith true true true Str t
+planOf IntData t = planWith true false false Data t
 
 -- ---- the bytes
 

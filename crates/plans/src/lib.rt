@@ -63,30 +63,31 @@ pub enum Left {
     Short,
 }
 
-fn plan_with(first: bool, uuid: bool, second: bool, text: Text) -> Plan
-    ensures { λ r. ⌜ r ≡ planWith first uuid second text Tail.Nothing ⌝ }
+fn plan_with(first: bool, uuid: bool, second: bool, text: Text, tail: Tail) -> Plan
+    ensures { λ r. ⌜ r ≡ planWith first uuid second text tail ⌝ }
 {
     Plan {
         first,
         uuid,
         second,
         text,
-        tail: Tail::Nothing,
+        tail,
     }
 }
 
-pub fn plan_of(shape: Shape) -> Plan
-    ensures { λ r. ⌜ r ≡ planOf shape ⌝ }
+// The fields of a shape, and what follows them.
+pub fn plan_of(shape: Shape, tail: Tail) -> Plan
+    ensures { λ r. ⌜ r ≡ planOf shape tail ⌝ }
 {
     match shape {
-        Shape::Nothing => plan_with(false, false, false, Text::Absent),
-        Shape::Int => plan_with(true, false, false, Text::Absent),
-        Shape::IntInt => plan_with(true, false, true, Text::Absent),
-        Shape::IntStr => plan_with(true, false, false, Text::Str),
-        Shape::IntIntStr => plan_with(true, false, true, Text::Str),
-        Shape::IntUuidStr => plan_with(true, true, false, Text::Str),
-        Shape::IntUuidIntStr => plan_with(true, true, true, Text::Str),
-        Shape::IntData => plan_with(true, false, false, Text::Data),
+        Shape::Nothing => plan_with(false, false, false, Text::Absent, tail),
+        Shape::Int => plan_with(true, false, false, Text::Absent, tail),
+        Shape::IntInt => plan_with(true, false, true, Text::Absent, tail),
+        Shape::IntStr => plan_with(true, false, false, Text::Str, tail),
+        Shape::IntIntStr => plan_with(true, false, true, Text::Str, tail),
+        Shape::IntUuidStr => plan_with(true, true, false, Text::Str, tail),
+        Shape::IntUuidIntStr => plan_with(true, true, true, Text::Str, tail),
+        Shape::IntData => plan_with(true, false, false, Text::Data, tail),
     }
 }
 
