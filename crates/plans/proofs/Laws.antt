@@ -1,7 +1,7 @@
 -- Laws of the definitions of specs/Plans.antt. Assumes nothing.
-use Prim.Native.Nat.{ℕ, suc, _+_, _-_, _/_, _≤_, _<_}
+use Prim.Native.Nat.{ℕ, _+_, _-_, _/_, _≤_, _<_}
 use mathlib.Core.Path.{_≡_, refl, sym, _∙_, ap}
-use mathlib.Core.Bool.{Bool, true, false}
+use mathlib.Core.Bool.{Bool, true, false, _&&_}
 use mathlib.Core.List.{List, [], _∷_, _++_, map}
 use native.Mathlib.Omega.{arith}
 use native.Mathlib.Numerals.{add-one}
@@ -78,21 +78,27 @@ module _ {A : Type 0} (n : ℕ) (xs : List A) (i : ℕ) (k : n ≤ length xs) wh
   none-of h = drop-of-length-le (take n xs) {i = i} (rw (length-take-le n xs k) h)
 
 module _ (s : List ℕ) (parts : List Part) (n i : ℕ) (k : n ≤ length parts) (h : i < n) where
-  pub ok-more : stringOk s (getD parts i noPart) ≡ true → stringsOk s (drop i (take n parts)) ≡ stringsOk s (drop (i + 1) (take n parts))
+  pub ok-next : stringsOk s (drop i (take n parts)) ≡ stringOk s (getD parts i noPart) && stringsOk s (drop (i + 1) (take n parts))
   unfolding stringsOk
-  ok-more e = rw (next-of n parts i k noPart h, e)
+  ok-next = rw (next-of n parts i k noPart h)
+
+  pub ok-more : stringOk s (getD parts i noPart) ≡ true → stringsOk s (drop i (take n parts)) ≡ stringsOk s (drop (i + 1) (take n parts))
+  ok-more e = ok-next ∙ rw e
 
   pub ok-ends : stringOk s (getD parts i noPart) ≡ false → stringsOk s (drop i (take n parts)) ≡ false
-  unfolding stringsOk
-  ok-ends e = rw (next-of n parts i k noPart h, e)
+  ok-ends e = ok-next ∙ rw e
+
+  pub strings-next : stringsBytes (map (shown s) (drop i (take n parts)))
+      ≡ stringBytes (shown s (getD parts i noPart)) ++ stringsBytes (map (shown s) (drop (i + 1) (take n parts)))
+  unfolding stringsBytes
+  strings-next = rw (next-of n parts i k noPart h)
 
   module _ (left : ℕ) where
     string-left : leftAfter (Room left) (length (stringsBytes (map (shown s) (drop i (take n parts)))))
         ≡ leftAfter (leftAfter (Room left) (length (stringBytes (shown s (getD parts i noPart)))))
         (length (stringsBytes (map (shown s) (drop (i + 1) (take n parts)))))
-    unfolding stringsBytes
     string-left =
-        rw (next-of n parts i k noPart h)
+        rw strings-next
         (sym (left-join (Room left) (stringBytes (shown s (getD parts i noPart)))
         (stringsBytes (map (shown s) (drop (i + 1) (take n parts))))))
 
@@ -115,11 +121,9 @@ module _ (s : List ℕ) (parts : List Part) (n i : ℕ) (k : n ≤ length parts)
         let m : left - length (stringBytes x) ≡ left - length x - 1 = omega arith in
         string-left ∙ rw (q, m)
 
-pub ints-next : (zs : List ℤ) (i : ℕ) → i < length zs
-    → length (intsBytes (drop i zs)) ≡ length (canonical (getD zs i (pos 0))) + length (intsBytes (drop (i + 1) zs))
+pub ints-next : (zs : List ℤ) (i : ℕ) → i < length zs → intsBytes (drop i zs) ≡ canonical (getD zs i (pos 0)) ++ intsBytes (drop (i + 1) zs)
 unfolding intsBytes
-ints-next zs i h =
-    rw (drop-cons zs i (pos 0) h, add-one) (length-append (canonical (getD zs i (pos 0))) (intsBytes (drop (suc i) zs)))
+ints-next zs i h = rw (drop-cons zs i (pos 0) h, add-one)
 
 -- at most 16 of 16 parts
 pub used-le : (n : ℕ) → usedOf n ≤ 16

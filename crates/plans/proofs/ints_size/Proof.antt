@@ -4,7 +4,7 @@ use Prim.Native.Nat.{_+_, _-_, _*_, _≤_}
 use mathlib.Core.Path.{_≡_, refl, sym, _∙_, ap}
 use native.Mathlib.Omega.{arith}
 use borrow.Author.Needs.{needs}
-use lib.ListN.{length, getD, drop, drop-of-length-le}
+use lib.ListN.{length, getD, drop, length-append, drop-of-length-le}
 use lib.IntN.{pos}
 use mir.Syntax.{w32}
 use mir.Val.{toZ, ofZ}
@@ -37,7 +37,7 @@ loop-again : tie.Need-loop-again Inv-loop μ-loop
 loop-again c =
     let zs = c .before .before .before .before .args .t1 in
     let i = c .before .before .before .loop .i in
-    let n = ints-next zs i (omega arith) in
+    let n = ap length (ints-next zs i (omega arith)) ∙ length-append (canonical (getD zs i (pos 0))) (intsBytes (drop (i + 1) zs)) in
     let e = size-is c in
     (omega arith, (omega (arith, canonical-le (getD zs i (pos 0))), omega arith))
 
