@@ -40,8 +40,10 @@ module _ (xs : List ℕ) (at : ℕ) (all : List ℕ) (h : HasRoom xs at all) (ys
 
     pub rest-step : {m : ℕ} {zs : List ℕ} → Puts ys next a m zs → Rest xs at all zs m b
     rest-step p =
-        rw (p .0, p .1)
-        (omega (arith, r .0, length-append a b), (
-          written-length ys next a rest-room ∙ r .1 .0,
-          joined ys next a b (omega (arith, r .0, r .1 .0)) ∙ r .1 .1,
-        ))
+        rw (p .0, p .1) (
+          omega (arith, r .0, length-append a b),
+          (
+            written-length ys next a rest-room ∙ r .1 .0,
+            joined ys next a b (omega (arith, r .0, r .1 .0)) ∙ r .1 .1,
+          ),
+        )

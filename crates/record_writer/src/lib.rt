@@ -137,7 +137,15 @@ fn put_tail(tail: Tail, s: &[u8], ten: [i32; 10], args: Args, out: &mut [u8], at
     }
 }
 
-fn put_plan(plan: Plan, s: &[u8], f: Fields, ten: [i32; 10], args: Args, out: &mut [u8], at: usize) -> usize
+fn put_plan(
+    plan: Plan,
+    s: &[u8],
+    f: Fields,
+    ten: [i32; 10],
+    args: Args,
+    out: &mut [u8],
+    at: usize,
+) -> usize
     requires { ⌜ Ready (planOk plan (now s) f args) (now out) at (planBytes plan (now s) f ten args) ⌝ }
     ensures { λ r. ⌜ Puts (now (out .entry)) at (planBytes plan (now (s .entry)) f ten args) r (now (out .exit)) ⌝ }
 {
@@ -180,7 +188,15 @@ fn left_outline(left: Left, o: Outline, s: &[u8], f: Fields, ten: [i32; 10], arg
     plans::left_plan(b, plan, s, f, ten, args)
 }
 
-fn put_outline(o: Outline, s: &[u8], f: Fields, ten: [i32; 10], args: Args, out: &mut [u8], at: usize) -> usize
+fn put_outline(
+    o: Outline,
+    s: &[u8],
+    f: Fields,
+    ten: [i32; 10],
+    args: Args,
+    out: &mut [u8],
+    at: usize,
+) -> usize
     requires { ⌜ Ready (planOk (o .plan) (now s) f args) (now out) at (outlineBytes o (now s) f ten args) ⌝ }
     ensures { λ r. ⌜ Puts (now (out .entry)) at (outlineBytes o (now (s .entry)) f ten args) r (now (out .exit)) ⌝ }
 {
@@ -191,7 +207,15 @@ fn put_outline(o: Outline, s: &[u8], f: Fields, ten: [i32; 10], args: Args, out:
 }
 
 // A record that has a written form: nothing is put before the room is known.
-fn write_fields(o: Outline, s: &[u8], f: Fields, ten: [i32; 10], args: Args, out: &mut [u8], at: usize) -> Wrote
+fn write_fields(
+    o: Outline,
+    s: &[u8],
+    f: Fields,
+    ten: [i32; 10],
+    args: Args,
+    out: &mut [u8],
+    at: usize,
+) -> Wrote
     requires { ⌜ planOk (o .plan) (now s) f args ≡ true ⌝ }
     ensures answer { λ r. ⌜ r ≡ wrote (now (out .entry)) at (outlineBytes o (now (s .entry)) f ten args) ⌝ }
     ensures target { λ r. ⌜ now (out .exit) ≡ written (now (out .entry)) at (outlineBytes o (now (s .entry)) f ten args) ⌝ }
@@ -206,7 +230,15 @@ fn write_fields(o: Outline, s: &[u8], f: Fields, ten: [i32; 10], args: Args, out
     }
 }
 
-fn write_outline(o: Outline, s: &[u8], f: Fields, ten: [i32; 10], args: Args, out: &mut [u8], at: usize) -> Wrote
+fn write_outline(
+    o: Outline,
+    s: &[u8],
+    f: Fields,
+    ten: [i32; 10],
+    args: Args,
+    out: &mut [u8],
+    at: usize,
+) -> Wrote
     ensures answer { λ r. ⌜ r ≡ wroteIf (outlineOk o (now (s .entry)) f args) (now (out .entry)) at (outlineBytes o (now (s .entry)) f ten args) ⌝ }
     ensures target { λ r. ⌜ now (out .exit) ≡ writtenIf (outlineOk o (now (s .entry)) f args) (now (out .entry)) at (outlineBytes o (now (s .entry)) f ten args) ⌝ }
 {
@@ -222,7 +254,17 @@ fn write_outline(o: Outline, s: &[u8], f: Fields, ten: [i32; 10], args: Args, ou
 }
 
 // Extension k, whose data has this size: its number, its identifier, the size, the data.
-fn write_framed(k: usize, size: usize, plan: Plan, s: &[u8], f: Fields, ten: [i32; 10], args: Args, out: &mut [u8], at: usize) -> Wrote
+fn write_framed(
+    k: usize,
+    size: usize,
+    plan: Plan,
+    s: &[u8],
+    f: Fields,
+    ten: [i32; 10],
+    args: Args,
+    out: &mut [u8],
+    at: usize,
+) -> Wrote
     requires { ⌜ k < 20 ⌝ }
     requires { ⌜ size ≤ 2147483647 ⌝ }
     requires { ⌜ size ≡ length (planBytes plan (now s) f ten args) ⌝ }
@@ -244,7 +286,16 @@ fn write_framed(k: usize, size: usize, plan: Plan, s: &[u8], f: Fields, ten: [i3
 }
 
 // Extension k in version 2. Its data may have 2147483647 bytes.
-fn write_payload(k: usize, plan: Plan, s: &[u8], f: Fields, ten: [i32; 10], args: Args, out: &mut [u8], at: usize) -> Wrote
+fn write_payload(
+    k: usize,
+    plan: Plan,
+    s: &[u8],
+    f: Fields,
+    ten: [i32; 10],
+    args: Args,
+    out: &mut [u8],
+    at: usize,
+) -> Wrote
     requires { ⌜ k < 20 ⌝ }
     ensures answer { λ r. ⌜ r ≡ wroteIf (planOk plan (now (s .entry)) f args && isData (planBytes plan (now (s .entry)) f ten args)) (now (out .entry)) at (exBytes (idAt k) (planBytes plan (now (s .entry)) f ten args)) ⌝ }
     ensures target { λ r. ⌜ now (out .exit) ≡ writtenIf (planOk plan (now (s .entry)) f args && isData (planBytes plan (now (s .entry)) f ten args)) (now (out .entry)) at (exBytes (idAt k) (planBytes plan (now (s .entry)) f ten args)) ⌝ }
@@ -259,7 +310,16 @@ fn write_payload(k: usize, plan: Plan, s: &[u8], f: Fields, ten: [i32; 10], args
     }
 }
 
-fn write_named(version: Version, k: usize, s: &[u8], f: Fields, ten: [i32; 10], args: Args, out: &mut [u8], at: usize) -> Wrote
+fn write_named(
+    version: Version,
+    k: usize,
+    s: &[u8],
+    f: Fields,
+    ten: [i32; 10],
+    args: Args,
+    out: &mut [u8],
+    at: usize,
+) -> Wrote
     requires { ⌜ k < 20 ⌝ }
     ensures answer { λ r. ⌜ r ≡ wroteIf (contentOk version (now (s .entry)) (fromFields (Named k) f) ten args) (now (out .entry)) at (contentBytes (now (s .entry)) (fromFields (Named k) f) ten args) ⌝ }
     ensures target { λ r. ⌜ now (out .exit) ≡ writtenIf (contentOk version (now (s .entry)) (fromFields (Named k) f) ten args) (now (out .entry)) at (contentBytes (now (s .entry)) (fromFields (Named k) f) ten args) ⌝ }
