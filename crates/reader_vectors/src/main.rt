@@ -6,20 +6,25 @@ use item::Version;
 use item::VersionOf;
 use libc::STDOUT_FILENO;
 use lines::Ending;
+use packer::Part;
 use refusal::Refusal;
 use state::Answer;
 use state::Event;
 use state::Reader;
 use varint::Wrote;
 
+// The first n bytes.
+fn print_start(line: &[u8], n: usize) {
+    let start = Part { at: 0, len: n };
+    io::write_all(STDOUT_FILENO, packer::show(line, start));
+}
+
 fn print_line(event: Event, input: [i32; 10]) {
     let mut line = [0u8; 256];
     let Wrote::Past(n) = lines::write_line(event, input, &mut line, 0) else {
         return;
     };
-    if n <= 256 {
-        io::write_all(STDOUT_FILENO, &line[..n]);
-    }
+    print_start(&line, n);
 }
 
 fn print_last(ending: Ending) {
@@ -27,9 +32,7 @@ fn print_last(ending: Ending) {
     let Wrote::Past(n) = lines::write_last(ending, &mut line, 0) else {
         return;
     };
-    if n <= 256 {
-        io::write_all(STDOUT_FILENO, &line[..n]);
-    }
+    print_start(&line, n);
 }
 
 // A body read whole: every window reaches to its end and is the last. A call uses a byte or answers an event of a pending kind, of which
@@ -43,7 +46,11 @@ fn read_body(version: Version, body: &[u8]) {
         if body.len() < at {
             return;
         }
-        let read = reader::read(reader, &body[at..], true);
+        let rest = Part {
+            at,
+            len: body.len() - at,
+        };
+        let read = reader::read(reader, packer::show(body, rest), true);
         let answer = read.answer;
         let input = read.input;
         match answer {

@@ -9,6 +9,7 @@ use back::BoardTick;
 use item::Version;
 use item::VersionOf;
 use libc::STDOUT_FILENO;
+use packer::Part;
 use reader::ReadAnswer;
 use state::Answer;
 use state::Event;
@@ -21,14 +22,18 @@ struct Spot {
     at: usize,
 }
 
+// The first n bytes.
+fn print_start(line: &[u8], n: usize) {
+    let start = Part { at: 0, len: n };
+    io::write_all(STDOUT_FILENO, packer::show(line, start));
+}
+
 fn print_line(event: Event, input: [i32; 10]) {
     let mut line = [0u8; 256];
     let Wrote::Past(n) = lines::write_line(event, input, &mut line, 0) else {
         return;
     };
-    if n <= 256 {
-        io::write_all(STDOUT_FILENO, &line[..n]);
-    }
+    print_start(&line, n);
 }
 
 // A reading call at a spot; the window reaches to the body's end.
@@ -38,7 +43,11 @@ fn read_at(spot: Spot, body: &[u8]) -> ReadAnswer {
     if body.len() < at {
         return reader::read(reader, &body[..0], true);
     }
-    reader::read(reader, &body[at..], true)
+    let rest = Part {
+        at,
+        len: body.len() - at,
+    };
+    reader::read(reader, packer::show(body, rest), true)
 }
 
 // The bytes that an event used; a call without an event ends the walk.
