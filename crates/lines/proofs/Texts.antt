@@ -14,11 +14,16 @@ use Rattle.item.specs.Records.{Content}
 use Rattle.item.specs.Contents.{cidOf, tagNumber}
 use Rattle.item.specs.declared.Cid.{Cid}
 use Rattle.item.specs.declared.Cid.the-variants.{Of, NoCid}
-use Rattle.state.specs.Reading.{other}
+use Rattle.state.specs.Reading.{Event, tickStart, tickEnd, playerNew, playerChange, playerOld, input, other}
 use Rattle.lines.specs.Lines.{
   spaced,
   numbers,
   newline,
+  startWord,
+  endWord,
+  newWord,
+  changeWord,
+  oldWord,
   inputWord,
   recordWord,
   client,
@@ -41,6 +46,27 @@ end-le ns = omega (arith, length-append (numbers ns) newline, numbers-le ns)
 pub line-fits : (word : List ℕ) (ns : List ℤ) (at size : ℕ) → at + longest ≤ size → length word + 12 * length ns ≤ 137
     → at + length (word ++ (numbers ns ++ newline)) ≤ size
 line-fits word ns at size h k = omega (arith, length-append word (numbers ns ++ newline), end-le ns)
+
+-- no line is longer
+module _ (ten : List ℤ) (h : length ten ≡ 10) where
+  short : (word : List ℕ) (ns : List ℤ) → length word + 12 * length ns ≤ 137 → length (word ++ (numbers ns ++ newline)) ≤ longest
+  short word ns k = omega (arith, length-append word (numbers ns ++ newline), end-le ns)
+
+  client-le : (i : Cid) → length (client i) ≤ 12
+  client-le (Of z) = omega (arith, numbers-le (z ∷ []))
+  client-le NoCid = omega arith
+
+  pub line-le : (e : Event) → length (lineOf e ten) ≤ longest
+  line-le (tickStart t) = short startWord (t ∷ []) (omega arith)
+  line-le (tickEnd t) = short endWord (t ∷ []) (omega arith)
+  line-le (playerNew c x y) = short newWord (c ∷ x ∷ y ∷ []) (omega arith)
+  line-le (playerChange c x y old-x old-y) = short changeWord (c ∷ x ∷ y ∷ old-x ∷ old-y ∷ []) (omega arith)
+  line-le (playerOld c x y) = short oldWord (c ∷ x ∷ y ∷ []) (omega arith)
+  line-le (input c former) = short inputWord (c ∷ ten) (omega arith)
+  line-le (other r) =
+      let n = numbers (tagNumber (r .tag) ∷ []) in
+      let i = client (cidOf r) in
+      omega (arith, length-append n (i ++ newline), length-append i newline, numbers-le (tagNumber (r .tag) ∷ []), client-le (cidOf r))
 
 -- ---- the parts of a line
 

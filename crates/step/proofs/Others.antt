@@ -33,7 +33,7 @@ use Rattle.step.proofs.Slim.{slim-calm, calm-refusal, calm-out}
 
 -- ---- the kinds and tags of these records
 
-no-other : {C : Type 0} → false ≡ true → C
+pub no-other : {C : Type 0} → false ≡ true → C
 no-other e = let z : _≡_ {A = ℕ} 0 1 = cc in absurd (omega arith)
 
 module _ (P : Kind → Type 0) (message : P kinds.Message) (join : P kinds.Join) (drop : P kinds.Drop) (command : P kinds.ConsoleCommand)
@@ -53,7 +53,7 @@ module _ (P : Kind → Type 0) (message : P kinds.Message) (join : P kinds.Join)
     by-other kinds.ConsoleCommand o = command
     by-other kinds.Ex o = ex
 
-abbrev otherTag : Tag → Bool
+abbrev pub otherTag : Tag → Bool
 otherTag (Plain k) = isOther k
 otherTag (Named k) = true
 otherTag Other = true

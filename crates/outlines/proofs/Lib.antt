@@ -1,0 +1,4 @@
+pub mod Tests
+pub mod Plain
+pub mod Extensions
+pub mod Whole

@@ -1,0 +1,34 @@
+-- `plans::plan_of` meets its contract. Assumes nothing.
+use mathlib.Core.Path.{_≡_}
+use borrow.Author.Needs.{needs}
+use Rattle.plans.proofs.plan_of.Statement.{statement}
+use Rattle.plans.proofs.plan_of.Tie as tie
+
+pub plan-of-spec : {M : Type 1} → statement M
+plan-of-spec =
+    tie.close
+    (tie.spec
+    (λ c. search needs)
+    (λ c κs. search needs)
+    (λ c. search needs)
+    (λ c κs. search needs)
+    (λ c. search needs)
+    (λ c κs. search needs)
+    (λ c. search needs)
+    (λ c κs. search needs)
+    (λ c. search needs)
+    (λ c κs. search needs)
+    (λ c. search needs)
+    (λ c κs. search needs)
+    (λ c. search needs)
+    (λ c κs. search needs)
+    (λ c. search needs)
+    (λ c κs. search needs)
+    (λ c. rw (c .before .enum-told .given .1) (c .plan-with .ensures))
+    (λ c. rw (c .before .enum-told2 .given .1) (c .plan-with2 .ensures))
+    (λ c. rw (c .before .enum-told3 .given .1) (c .plan-with3 .ensures))
+    (λ c. rw (c .before .enum-told4 .given .1) (c .plan-with4 .ensures))
+    (λ c. rw (c .before .enum-told5 .given .1) (c .plan-with5 .ensures))
+    (λ c. rw (c .before .enum-told6 .given .1) (c .plan-with6 .ensures))
+    (λ c. rw (c .before .enum-told7 .given .1) (c .plan-with7 .ensures))
+    (λ c. rw (c .before .enum-told8 .given .1) (c .plan-with8 .ensures)))

@@ -1,0 +1,203 @@
+-- The arguments beside what a call says: those of a command, read again; else none. Assumes nothing.
+use Prim.Native.Nat.{ℕ}
+use mathlib.Core.Path.{_≡_, refl, sym, ap, subst, _∙_}
+use mathlib.Core.Bool.{Bool, true, false}
+use mathlib.Core.List.{List, [], _++_}
+use lib.IntN.{ℤ}
+use Rattle.packer.specs.declared.Part.{Part}
+use Rattle.fields.specs.Fields.{Value, Reading, got}
+use Rattle.fields.specs.Views.{argsWith}
+use Rattle.fields.specs.declared.Args.{Args}
+use Rattle.fields.proofs.Answers.{not-out, not-refused}
+use Rattle.item.specs.Said.{Said, gives, more, finish, refuses}
+use Rattle.item.specs.Records.{Content, content, readRest}
+use Rattle.item.specs.Contents.{itemOf, beside, withBeside, noArgs, recordOf, tidyKind, tidyTag}
+use Rattle.item.specs.Views.{kindIs}
+use Rattle.item.specs.declared.Kind.{Kind}
+use Rattle.item.specs.declared.Kind.the-variants as kinds
+use Rattle.item.specs.declared.KindRead.{KindRead}
+use Rattle.item.specs.declared.KindRead.the-variants as reads
+use Rattle.item.specs.declared.Record.{Record}
+use Rattle.item.specs.declared.Tag.{Tag}
+use Rattle.item.specs.declared.Tag.the-variants.{Plain, Named, Other}
+use Rattle.refusal.specs.declared.Refusal.{Refusal}
+use Rattle.records.specs.Views.{ownContent, answerIs, tidyAnswer, RestRead}
+use Rattle.records.specs.declared.RecordAnswer.{RecordAnswer}
+use Rattle.records.specs.declared.RecordAnswer.the-variants as rests
+use Rattle.records.specs.declared.RecordRead.{RecordRead}
+use Rattle.records.proofs.Beside.{own-record}
+use Rattle.state.specs.State.{Memory}
+use Rattle.state.specs.Reading.{Event, tickStart, tickEnd, playerNew, playerChange, playerOld, input, other, nextKind, openCall}
+use Rattle.state.specs.Views.{saidIs, slimSaid}
+use Rattle.state.specs.declared.Scalars.{Scalars}
+use Rattle.state.specs.declared.Event.the-variants as events
+use Rattle.state.specs.declared.Answer.{Answer}
+use Rattle.state.specs.declared.Answer.the-variants as answers
+use Rattle.step.proofs.Others.{no-other, by-other, otherTag}
+use Rattle.step.proofs.Slim.{otherSaid, slim-said}
+use Rattle.reader.specs.Answers.{Tidy, isRecord, saidWith, isCommand, ArgsFor}
+use Rattle.reader.proofs.Whole.{whole-got}
+use Rattle.reader.proofs.Records.{FromRest, FromKind, call-given}
+
+-- ---- a record among the answers
+
+record-said : (a : Answer) → isRecord a ≡ otherSaid (saidIs a)
+record-said (answers.Event (events.TickStart t) used) = refl
+record-said (answers.Event (events.TickEnd t) used) = refl
+record-said (answers.Event (events.PlayerNew c x y) used) = refl
+record-said (answers.Event (events.PlayerChange c x y old-x old-y) used) = refl
+record-said (answers.Event (events.PlayerOld c x y) used) = refl
+record-said (answers.Event (events.Input c former) used) = refl
+record-said (answers.Event (events.Record i) used) = refl
+record-said answers.More = refl
+record-said (answers.Finish used) = refl
+record-said (answers.Refused r) = refl
+
+slim-other : (x : Said Event) → otherSaid x ≡ otherSaid (slimSaid x)
+slim-other (gives (tickStart t) used) = refl
+slim-other (gives (tickEnd t) used) = refl
+slim-other (gives (playerNew c x y) used) = refl
+slim-other (gives (playerChange c x y old-x old-y) used) = refl
+slim-other (gives (playerOld c x y) used) = refl
+slim-other (gives (input c former) used) = refl
+slim-other (gives (other c) used) = refl
+slim-other more = refl
+slim-other (finish used) = refl
+slim-other (refuses k vs) = refl
+
+-- a call gives a record exactly if the code's answer is one
+same-record : (a : Answer) (x : Said Event) → saidIs a ≡ slimSaid x → otherSaid x ≡ isRecord a
+same-record a x e = slim-other x ∙ ap otherSaid (sym e) ∙ sym (record-said a)
+
+-- ---- what is no record has no arguments
+
+said-plain : (a : Answer) (xs : Args) → isRecord a ≡ false → saidWith a xs ≡ saidIs a
+said-plain (answers.Event (events.TickStart t) used) xs h = refl
+said-plain (answers.Event (events.TickEnd t) used) xs h = refl
+said-plain (answers.Event (events.PlayerNew c x y) used) xs h = refl
+said-plain (answers.Event (events.PlayerChange c x y old-x old-y) used) xs h = refl
+said-plain (answers.Event (events.PlayerOld c x y) used) xs h = refl
+said-plain (answers.Event (events.Input c former) used) xs h = refl
+said-plain (answers.Event (events.Record i) used) xs h = no-other (sym h)
+said-plain answers.More xs h = refl
+said-plain (answers.Finish used) xs h = refl
+said-plain (answers.Refused r) xs h = refl
+
+no-tidy : Tidy noArgs
+unfolding argsWith
+no-tidy = refl
+
+pub args-none : (a : Answer) (s : Scalars) (w : List ℕ) → isRecord a ≡ false → ArgsFor a s w noArgs
+args-none a s w h =
+    record {
+      said = λ m last e.
+          let x = openCall s m w last .said in
+          said-plain a noArgs h ∙ e ∙ slim-said x (same-record a x e ∙ h);
+      tidy = no-tidy;
+    }
+
+-- ---- a record with its arguments
+
+said-record : (a : Answer) (xs : Args) (c : Content Part) (n : ℕ) → isRecord a ≡ true → saidIs a ≡ gives (other (ownContent c)) n
+    → withBeside (ownContent c) [] xs ≡ c → saidWith a xs ≡ gives (other c) n
+said-record (answers.Event (events.TickStart t) used) xs c n h e b = no-other h
+said-record (answers.Event (events.TickEnd t) used) xs c n h e b = no-other h
+said-record (answers.Event (events.PlayerNew k x y) used) xs c n h e b = no-other h
+said-record (answers.Event (events.PlayerChange k x y old-x old-y) used) xs c n h e b = no-other h
+said-record (answers.Event (events.PlayerOld k x y) used) xs c n h e b = no-other h
+said-record (answers.Event (events.Input k former) used) xs c n h e b = no-other h
+said-record (answers.Event (events.Record i) used) xs c n h e b =
+    let p : itemOf i ≡ ownContent c = cc in
+    let q : used ≡ n = cc in
+    rw (p, q) (ap (λ (d : Content Part). gives (other d) n) b)
+said-record answers.More xs c n h e b = no-other h
+said-record (answers.Finish used) xs c n h e b = no-other h
+said-record (answers.Refused r) xs c n h e b = no-other h
+
+-- the ten numbers don't stand beside a record that changes no entry
+beside-other : (t : Tag) (ten : List ℤ) (xs : Args) → otherTag t ≡ true → beside t [] xs ≡ beside t ten xs
+beside-other (Plain k) ten xs o = by-other (λ k. beside (Plain k) [] xs ≡ beside (Plain k) ten xs) refl refl refl refl refl k o
+beside-other (Named k) ten xs o = refl
+beside-other Other ten xs o = refl
+
+record-beside : (r : Record) → otherTag (itemOf (r .item) .tag) ≡ true → withBeside (ownContent (recordOf r)) [] (r .args) ≡ recordOf r
+record-beside r o =
+    let i = itemOf (r .item) in
+    ap (λ (c : Content Part). withBeside c [] (r .args)) (sym (own-record r))
+    ∙ ap (λ (vs : List (Value Part)). content (i .tag) (i .values ++ vs)) (beside-other (i .tag) (r .input) (r .args) o)
+
+answer-beside : (a : RecordAnswer) (r : Record) (c : Content Part) (n : ℕ) → answerIs a r ≡ got c n → otherTag (c .tag) ≡ true
+    → withBeside (ownContent c) [] (r .args) ≡ c
+answer-beside (rests.Got next) r c n e o =
+    let p : recordOf r ≡ c = cc in
+    subst (λ (d : Content Part). otherTag (d .tag) ≡ true → withBeside (ownContent d) [] (r .args) ≡ d) p (record-beside r) o
+answer-beside rests.RunsOut r c n e o = not-out e
+answer-beside (rests.Refused q) r c n e o = not-refused e
+
+-- ---- the arguments that stand beside a record are padded
+
+none-tidy : (xs : Args) → noArgs ≡ xs → Tidy xs
+none-tidy xs e = subst Tidy e no-tidy
+
+kind-tidy : (k : Kind) (r : Record) → tidyKind k r .args ≡ r .args → Tidy (r .args)
+kind-tidy (kinds.PlayerDiff c) r e = none-tidy _ e
+kind-tidy kinds.Finish r e = none-tidy _ e
+kind-tidy kinds.TickSkip r e = none-tidy _ e
+kind-tidy (kinds.PlayerNew c) r e = none-tidy _ e
+kind-tidy (kinds.PlayerOld c) r e = none-tidy _ e
+kind-tidy kinds.InputDiff r e = none-tidy _ e
+kind-tidy kinds.InputNew r e = none-tidy _ e
+kind-tidy kinds.Message r e = none-tidy _ e
+kind-tidy kinds.Join r e = none-tidy _ e
+kind-tidy kinds.Drop r e = none-tidy _ e
+kind-tidy kinds.ConsoleCommand r e = e
+kind-tidy kinds.Ex r e = none-tidy _ e
+
+tag-tidy : (t : Tag) (r : Record) → tidyTag t r .args ≡ r .args → Tidy (r .args)
+tag-tidy (Plain k) r e = kind-tidy k r e
+tag-tidy (Named k) r e = none-tidy _ e
+tag-tidy Other r e = none-tidy _ e
+
+answer-tidy : (a : RecordAnswer) (r : Record) → tidyAnswer a r .args ≡ r .args → Tidy (r .args)
+answer-tidy (rests.Got next) r e = tag-tidy (itemOf (r .item) .tag) r e
+answer-tidy rests.RunsOut r e = none-tidy _ e
+answer-tidy (rests.Refused q) r e = none-tidy _ e
+
+-- ---- where the kind was read
+
+module _ (a : Answer) (s : Scalars) (w : List ℕ) (h : isRecord a ≡ true) (r : KindRead) (k : kindIs r ≡ nextKind (s .version) (s .pending) w)
+  where
+    given : (y : KindRead) → r ≡ y → (m : Memory) (last : Bool) → saidIs a ≡ slimSaid (openCall s m w last .said)
+        → FromKind s m w last (kindIs y) (openCall s m w last .said)
+    given y e m last q = call-given s m w last (kindIs y) (ap kindIs (sym e) ∙ k) (same-record a (openCall s m w last .said) q ∙ h)
+
+    -- arguments that make the record whole
+    from-rest : (xs : Args) (m : Memory) (last : Bool) (kind : Kind) (n : ℕ) → saidIs a ≡ slimSaid (openCall s m w last .said)
+        → (f : FromRest kind w n (openCall s m w last .said)) → withBeside (ownContent (f .content)) [] xs ≡ f .content
+        → saidWith a xs ≡ openCall s m w last .said
+    from-rest xs m last kind n q f b = said-record a xs (f .content) (f .used) h (q ∙ ap slimSaid (f .said)) b ∙ sym (f .said)
+
+    pub args-plain : (kind : Kind) (n : ℕ) → r ≡ reads.Got kind n → isCommand kind ≡ false → ArgsFor a s w noArgs
+    args-plain kind n e p =
+        record {
+          said = λ m last q.
+              let f = given (reads.Got kind n) e m last q in
+              from-rest noArgs m last kind n q f (whole-got w kind n (f .content) (f .used) (f .kind) p (f .read));
+          tidy = no-tidy;
+        }
+
+    pub args-command : (kind : Kind) (n : ℕ) → r ≡ reads.Got kind n → (x : RecordRead) → RestRead kind w n x → ArgsFor a s w (x .value .args)
+    args-command kind n e x t =
+        record {
+          said = λ m last q.
+              let f = given (reads.Got kind n) e m last q in
+              from-rest (x .value .args) m last kind n q f
+              (answer-beside (x .answer) (x .value) (f .content) (f .used) (t .values ∙ f .read) (f .tag));
+          tidy = answer-tidy (x .answer) (x .value) (ap (λ (v : Record). v .args) (t .tidy));
+        }
+
+    pub args-out : r ≡ reads.RunsOut → ArgsFor a s w noArgs
+    args-out e = record { said = λ m last q. absurd (given reads.RunsOut e m last q); tidy = no-tidy }
+
+    pub args-refused : (q : Refusal) → r ≡ reads.Refused q → ArgsFor a s w noArgs
+    args-refused z e = record { said = λ m last q. absurd (given (reads.Refused z) e m last q); tidy = no-tidy }

@@ -1,0 +1,35 @@
+-- A call on a reader by the tests that the code makes. Assumes nothing.
+use Prim.Native.Nat.{ℕ}
+use mathlib.Core.Path.{_≡_, refl, sym, _∙_}
+use mathlib.Core.Bool.{Bool, true, false, not, cond}
+use mathlib.Core.List.{List}
+use Rattle.refusal.specs.declared.Refusal.the-variants.{BadState, Closed}
+use Rattle.item.specs.Said.{refusing}
+use Rattle.state.specs.State.{goodReader}
+use Rattle.state.specs.Reading.{step, openCall, goodCall, memoryOf, readCall}
+use Rattle.state.specs.declared.Reader.{Reader}
+use Rattle.state.proofs.Numbers.{picks-first, picks-second}
+
+-- a test that was turned round
+pub off : (b x : Bool) → b ≡ x → not b ≡ true → x ≡ false
+off true x e h = sym e ∙ sym h
+off false x e h = sym e
+
+pub on : (b x : Bool) → b ≡ x → not b ≡ false → x ≡ true
+on true x e h = sym e
+on false x e h = sym e ∙ sym h
+
+module _ (r : Reader) (w : List ℕ) (last : Bool) where
+  pub call-bad : goodReader r ≡ false → step (refusing BadState) (r .scalars) (memoryOf (r .entries)) ≡ readCall r w last
+  unfolding readCall
+  call-bad g = picks-second (goodReader r) _ _ g
+
+  pub call-closed : goodReader r ≡ true → r .scalars .closed ≡ true
+      → step (refusing Closed) (r .scalars) (memoryOf (r .entries)) ≡ readCall r w last
+  unfolding readCall goodCall
+  call-closed g c = picks-first (r .scalars .closed) _ _ c ∙ picks-first (goodReader r) _ _ g
+
+  pub call-open : goodReader r ≡ true → r .scalars .closed ≡ false
+      → openCall (r .scalars) (memoryOf (r .entries)) w last ≡ readCall r w last
+  unfolding readCall goodCall
+  call-open g c = picks-second (r .scalars .closed) _ _ c ∙ picks-first (goodReader r) _ _ g

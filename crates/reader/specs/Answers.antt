@@ -1,0 +1,114 @@
+-- What the calls on a reader by value hand back, as the definitions say it.
+use Prim.Native.Nat.{ℕ}
+use mathlib.Core.Path.{_≡_}
+use mathlib.Core.Bool.{Bool, true, false, cond}
+use mathlib.Core.List.{List, []}
+use lib.ListN.{take}
+use lib.IntN.{ℤ, pos, negsuc}
+use Rattle.fields.specs.Views.{zeros, argsWith}
+use Rattle.fields.specs.declared.Args.{Args}
+use Rattle.item.specs.Said.{Said, gives, more, finish, refusing}
+use Rattle.item.specs.Contents.{itemOf, withBeside}
+use Rattle.item.specs.declared.Kind.{Kind}
+use Rattle.item.specs.declared.Kind.the-variants as kinds
+use Rattle.state.specs.State.{Memory, present, xOf, yOf, holds, tenOf}
+use Rattle.state.specs.Reading.{Event, other, Step, openCall, readCall, readerAfter}
+use Rattle.state.specs.Views.{eventIs, saidIs, slimSaid}
+use Rattle.state.specs.declared.Scalars.{Scalars}
+use Rattle.state.specs.declared.Entries.{Entries}
+use Rattle.state.specs.declared.Reader.{Reader}
+use Rattle.state.specs.declared.Event as code
+use Rattle.state.specs.declared.Event.the-variants as events
+use Rattle.state.specs.declared.Answer.{Answer}
+use Rattle.state.specs.declared.Answer.the-variants as answers
+use Rattle.reader.specs.declared.ReadAnswer.{ReadAnswer}
+use Rattle.reader.specs.declared.Pos.{Pos}
+use Rattle.reader.specs.declared.Pos.the-variants as places
+use Rattle.reader.specs.declared.InputOf.{InputOf}
+
+-- ---- a reading call: an event with the arguments that stand beside a command
+
+abbrev pub eventWith : code.Event → Args → Event
+eventWith (events.TickStart t) xs = eventIs (events.TickStart t)
+eventWith (events.TickEnd t) xs = eventIs (events.TickEnd t)
+eventWith (events.PlayerNew c x y) xs = eventIs (events.PlayerNew c x y)
+eventWith (events.PlayerChange c x y old-x old-y) xs = eventIs (events.PlayerChange c x y old-x old-y)
+eventWith (events.PlayerOld c x y) xs = eventIs (events.PlayerOld c x y)
+eventWith (events.Input c former) xs = eventIs (events.Input c former)
+eventWith (events.Record i) xs = other (withBeside (itemOf i) [] xs)
+
+abbrev pub saidWith : Answer → Args → Said Event
+saidWith (answers.Event e used) xs = gives (eventWith e xs) used
+saidWith answers.More xs = more
+saidWith (answers.Finish used) xs = finish used
+saidWith (answers.Refused r) xs = refusing r
+
+-- as many parts as the count says; the others are empty
+abbrev pub Tidy : Args → Type 0
+Tidy xs = argsWith (take (xs .count) (xs .parts)) ≡ xs
+
+abbrev pub recordEvent : code.Event → Bool
+recordEvent (events.TickStart t) = false
+recordEvent (events.TickEnd t) = false
+recordEvent (events.PlayerNew c x y) = false
+recordEvent (events.PlayerChange c x y old-x old-y) = false
+recordEvent (events.PlayerOld c x y) = false
+recordEvent (events.Input c former) = false
+recordEvent (events.Record i) = true
+
+abbrev pub isRecord : Answer → Bool
+isRecord (answers.Event e used) = recordEvent e
+isRecord answers.More = false
+isRecord (answers.Finish used) = false
+isRecord (answers.Refused r) = false
+
+abbrev pub readAnswer : Answer → Scalars → Entries → List ℤ → List ℤ → Args → ReadAnswer
+readAnswer a s e ten former xs =
+    record { answer = a; reader = record { scalars = s; entries = e }; input = ten; former = former; args = xs }
+
+-- what a call says, the reader that it leaves, the ten numbers and the former ten, and arguments that are padded with empty parts
+pub record Tells (t : Step) (r : ReadAnswer) : Type 0 where
+  pub said : saidWith (r .answer) (r .args) ≡ t .said
+  pub left : r .reader ≡ readerAfter t
+  pub input : r .input ≡ t .memory .input
+  pub former : r .former ≡ t .memory .former
+  pub args : Tidy (r .args)
+
+abbrev pub ReadIs : Reader → List ℕ → Bool → ReadAnswer → Type 0
+ReadIs reader w last r = Tells (readCall reader w last) r
+
+-- ---- the arguments, which are read again
+
+abbrev pub isCommand : Kind → Bool
+isCommand (kinds.PlayerDiff c) = false
+isCommand kinds.Finish = false
+isCommand kinds.TickSkip = false
+isCommand (kinds.PlayerNew c) = false
+isCommand (kinds.PlayerOld c) = false
+isCommand kinds.InputDiff = false
+isCommand kinds.InputNew = false
+isCommand kinds.Message = false
+isCommand kinds.Join = false
+isCommand kinds.Drop = false
+isCommand kinds.ConsoleCommand = true
+isCommand kinds.Ex = false
+
+-- where a call's answer is a without arguments, they are those that it lacks
+pub record ArgsFor (a : Answer) (s : Scalars) (w : List ℕ) (xs : Args) : Type 0 where
+  pub said :
+      (m : Memory) (last : Bool) → saidIs a ≡ slimSaid (openCall s m w last .said) → saidWith a xs ≡ openCall s m w last .said
+  pub tidy : Tidy xs
+
+-- ---- lookups
+
+abbrev pub posOf : Entries → ℤ → Pos
+posOf e (pos c) = cond (present e c) (places.At (xOf e c) (yOf e c)) places.NoPos
+posOf e (negsuc c) = places.NoPos
+
+abbrev pub inputAnswer : Bool → List ℤ → InputOf
+inputAnswer there ten = record { there = there; input = ten }
+
+-- ten zeros where there is none
+abbrev pub inputFor : Entries → ℤ → InputOf
+inputFor e (pos c) = cond (holds e c) (inputAnswer true (tenOf (e .inputs) c)) (inputAnswer false (zeros 10))
+inputFor e (negsuc c) = inputAnswer false (zeros 10)

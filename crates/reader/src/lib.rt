@@ -1,0 +1,288 @@
+// The reader by value (raw.rs, Reader): the empty one, the reading call, lookups. The work is done by step::open_call on lent entries.
+ghost use mathlib.Core.Path.{_≡_};
+ghost use mathlib.Core.Bool.{false};
+ghost use lib.IntN.{pos, _+ℤ_};
+ghost use Rattle.fields.specs.Views.{zeros};
+ghost use Rattle.item.specs.Said.{refusing};
+ghost use Rattle.item.specs.Contents.{noArgs};
+ghost use Rattle.state.specs.State.{goodReader};
+ghost use Rattle.state.specs.Reading.{step, openCall, memoryOf};
+ghost use Rattle.reader.specs.Answers.{
+  recordEvent,
+  isRecord,
+  isCommand,
+  ArgsFor,
+  readAnswer,
+  Tells,
+  ReadIs,
+  posOf,
+  inputAnswer,
+  inputFor,
+};
+use fields::Args;
+use item::Kind;
+use item::KindRead;
+use packer::Part;
+use refusal::Refusal;
+use state::Answer;
+use state::Entries;
+use state::Event;
+use state::Outcome;
+use state::Reader;
+use state::Scalars;
+
+// What a reading call hands back. The ten numbers and the former ten belong to an Input event, the arguments to a command; they are
+// zeros and none elsewhere.
+pub struct ReadAnswer {
+    pub answer: Answer,
+    pub reader: Reader,
+    pub input: [i32; 10],
+    pub former: [i32; 10],
+    pub args: Args,
+}
+
+// A position, or none.
+pub enum Pos {
+    At { x: i32, y: i32 },
+    NoPos,
+}
+
+// Ten numbers, if there are any.
+pub struct InputOf {
+    pub there: bool,
+    pub input: [i32; 10],
+}
+
+// Whether the reader is not refused 17.
+pub fn is_good(reader: Reader) -> bool
+    ensures { λ r. ⌜ r ≡ goodReader reader ⌝ }
+{
+    let scalars = reader.scalars;
+    let entries = reader.entries;
+    good::both(good::good_scalars(scalars), good::good_entries(entries))
+}
+
+const NO_PART: Part = Part { at: 0, len: 0 };
+
+fn no_args() -> Args
+    ensures { λ r. ⌜ r ≡ noArgs ⌝ }
+{
+    Args {
+        count: 0,
+        parts: [NO_PART; 16],
+    }
+}
+
+fn is_record_event(event: Event) -> bool
+    ensures { λ r. ⌜ r ≡ recordEvent event ⌝ }
+{
+    match event {
+        Event::TickStart(_) => false,
+        Event::TickEnd(_) => false,
+        Event::PlayerNew { cid: _, x: _, y: _ } => false,
+        Event::PlayerChange {
+            cid: _,
+            x: _,
+            y: _,
+            old_x: _,
+            old_y: _,
+        } => false,
+        Event::PlayerOld { cid: _, x: _, y: _ } => false,
+        Event::Input { cid: _, former: _ } => false,
+        Event::Record(_) => true,
+    }
+}
+
+fn is_record(answer: Answer) -> bool
+    ensures { λ r. ⌜ r ≡ isRecord answer ⌝ }
+{
+    match answer {
+        Answer::Event { event, used: _ } => is_record_event(event),
+        Answer::More => false,
+        Answer::Finish { used: _ } => false,
+        Answer::Refused(_) => false,
+    }
+}
+
+fn is_command(kind: Kind) -> bool
+    ensures { λ r. ⌜ r ≡ isCommand kind ⌝ }
+{
+    match kind {
+        Kind::PlayerDiff(_) => false,
+        Kind::Finish => false,
+        Kind::TickSkip => false,
+        Kind::PlayerNew(_) => false,
+        Kind::PlayerOld(_) => false,
+        Kind::InputDiff => false,
+        Kind::InputNew => false,
+        Kind::Message => false,
+        Kind::Join => false,
+        Kind::Drop => false,
+        Kind::ConsoleCommand => true,
+        Kind::Ex => false,
+    }
+}
+
+// The arguments that stand beside the record that a call gave; none beside anything but a command.
+fn args_of(answer: Answer, s: Scalars, w: &[u8]) -> Args
+    ensures { λ r. ⌜ ArgsFor answer s (now (w .entry)) r ⌝ }
+{
+    if !is_record(answer) {
+        return no_args();
+    }
+    let version = s.version;
+    let pending = s.pending;
+    let read = step::next_kind(version, pending, w);
+    match read {
+        KindRead::Got { kind, next } => {
+            if is_command(kind) {
+                let rest = records::read_rest(kind, w, next);
+                let value = rest.value;
+                let args = value.args;
+                return args;
+            }
+            no_args()
+        }
+        KindRead::RunsOut => no_args(),
+        KindRead::Refused(_) => no_args(),
+    }
+}
+
+fn answered(
+    o: Outcome,
+    entries: Entries,
+    input: [i32; 10],
+    former: [i32; 10],
+    args: Args,
+) -> ReadAnswer
+    ensures { λ r. ⌜ r ≡ readAnswer (o .answer) (o .scalars) entries input former args ⌝ }
+{
+    let answer = o.answer;
+    let scalars = o.scalars;
+    ReadAnswer {
+        answer,
+        reader: Reader { scalars, entries },
+        input,
+        former,
+        args,
+    }
+}
+
+// A refusal that changes nothing.
+fn refused(reader: Reader, why: Refusal) -> ReadAnswer
+    ensures { λ r. ⌜ Tells (step (refusing why) (reader .scalars) (memoryOf (reader .entries))) r ⌝ }
+{
+    let scalars = reader.scalars;
+    let entries = reader.entries;
+    let o = Outcome {
+        answer: Answer::Refused(why),
+        scalars,
+    };
+    answered(o, entries, [0; 10], [0; 10], no_args())
+}
+
+// A call on an open reader.
+fn open_read(s: Scalars, entries: Entries, window: &[u8], last: bool) -> ReadAnswer
+    ensures { λ r. ⌜ Tells (openCall s (memoryOf entries) (now (window .entry)) last) r ⌝ }
+{
+    let mut marks = entries.marks;
+    let mut xs = entries.xs;
+    let mut ys = entries.ys;
+    let mut held = entries.held;
+    let mut inputs = entries.inputs;
+    let mut input = [0i32; 10];
+    let mut former = [0i32; 10];
+    let o = step::open_call(
+        s,
+        &mut marks,
+        &mut xs,
+        &mut ys,
+        &mut held,
+        &mut inputs,
+        &mut input,
+        &mut former,
+        window,
+        last,
+    );
+    let answer = o.answer;
+    let args = args_of(answer, s, window);
+    let left = Entries {
+        marks,
+        xs,
+        ys,
+        held,
+        inputs,
+    };
+    answered(o, left, input, former, args)
+}
+
+// The reading call: the window begins at the reader's place; last says that no more bytes come.
+pub fn read(reader: Reader, window: &[u8], last: bool) -> ReadAnswer
+    ensures { λ r. ⌜ ReadIs reader (now (window .entry)) last r ⌝ }
+{
+    if !is_good(reader) {
+        return refused(reader, Refusal::BadState);
+    }
+    let scalars = reader.scalars;
+    let entries = reader.entries;
+    if scalars.closed {
+        return refused(reader, Refusal::Closed);
+    }
+    open_read(scalars, entries, window, last)
+}
+
+// The position of a client, or none.
+pub fn player_pos(reader: Reader, cid: i32) -> Pos
+    ensures { λ r. ⌜ r ≡ posOf (reader .entries) cid ⌝ }
+{
+    let entries = reader.entries;
+    let bits = num::bits(cid);
+    if 128 <= bits {
+        return Pos::NoPos;
+    }
+    let i = bits as usize;
+    if entries.marks[i] != 1 {
+        return Pos::NoPos;
+    }
+    Pos::At {
+        x: entries.xs[i],
+        y: entries.ys[i],
+    }
+}
+
+// The ten input numbers of a client, or none.
+pub fn input(reader: Reader, cid: i32) -> InputOf
+    ensures { λ r. ⌜ r ≡ inputFor (reader .entries) cid ⌝ }
+{
+    let entries = reader.entries;
+    let bits = num::bits(cid);
+    if 128 <= bits {
+        return no_input();
+    }
+    let i = bits as usize;
+    if entries.held[i] != 1 {
+        return no_input();
+    }
+    let inputs = entries.inputs;
+    InputOf {
+        there: true,
+        input: inputs::ten_at(&inputs, i),
+    }
+}
+
+fn no_input() -> InputOf
+    ensures { λ r. ⌜ r ≡ inputAnswer false (zeros 10) ⌝ }
+{
+    InputOf {
+        there: false,
+        input: [0; 10],
+    }
+}
+
+// The end of the range of clients seen, from 0: the largest client + 1, which may be 2147483648.
+pub fn cids(reader: Reader) -> i64
+    ensures { λ r. ⌜ r ≡ reader .scalars .largest +ℤ pos 1 ⌝ }
+{
+    let scalars = reader.scalars;
+    scalars.largest as i64 + 1
+}

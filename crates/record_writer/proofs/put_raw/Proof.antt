@@ -1,0 +1,21 @@
+-- `record_writer::put_raw` meets its contract. Assumes nothing.
+use mathlib.Core.Path.{_≡_}
+use borrow.Author.Needs.{needs}
+use Rattle.record_writer.proofs.Puts.{put-past, put-none}
+use Rattle.record_writer.proofs.put_raw.Statement.{statement}
+use Rattle.record_writer.proofs.put_raw.Tie as tie
+
+returns : tie.Need-returns
+returns c =
+    let a = c .before .before .before .before .before .before .before .before in
+    let t = c .before .before .before .before .before .if1 .taken in
+    let w = c .before .before .before .write-raw .ensures in
+    rw t (put-past (a .args .out .now) (a .args .at) (a .args .b .now) (rw t at (a .pre)) (w .0) (w .1) (c .past .ensures))
+
+returns-2 : tie.Need-returns-2
+returns-2 c =
+    let a = c .before .before .before in
+    rw (c .if1 .left) (put-none (a .args .out .now) (a .args .at) (rw (c .if1 .left) at (a .pre)))
+
+pub put-raw-spec : {M : Type 1} → statement M
+put-raw-spec = tie.close (tie.spec (λ c κs. search needs) (λ c κs. search needs) (λ c. search needs) returns returns-2)
