@@ -35,7 +35,7 @@ use Rattle.state.specs.declared.Answer.{Answer}
 use Rattle.state.specs.declared.Answer.the-variants as answers
 use Rattle.step.proofs.Others.{no-other, by-other, otherTag}
 use Rattle.step.proofs.Slim.{otherSaid, slim-said}
-use Rattle.reader.specs.Answers.{Tidy, isRecord, saidWith, isCommand, ArgsFor}
+use Rattle.reader.specs.Answers.{kindArgs, tagArgs, answerArgs, isRecord, saidWith, isCommand, ArgsFor}
 use Rattle.reader.proofs.Whole.{whole-got}
 use Rattle.reader.proofs.Records.{FromRest, FromKind, call-given}
 
@@ -83,9 +83,38 @@ said-plain answers.More xs h = refl
 said-plain (answers.Finish used) xs h = refl
 said-plain (answers.Refused r) xs h = refl
 
-no-tidy : Tidy noArgs
+-- nothing has no arguments
+kind-none : (k : Kind) → kindArgs k noArgs ≡ noArgs
 unfolding argsWith
-no-tidy = refl
+kind-none (kinds.PlayerDiff c) = refl
+kind-none kinds.Finish = refl
+kind-none kinds.TickSkip = refl
+kind-none (kinds.PlayerNew c) = refl
+kind-none (kinds.PlayerOld c) = refl
+kind-none kinds.InputDiff = refl
+kind-none kinds.InputNew = refl
+kind-none kinds.Message = refl
+kind-none kinds.Join = refl
+kind-none kinds.Drop = refl
+kind-none kinds.ConsoleCommand = refl
+kind-none kinds.Ex = refl
+
+tag-none : (t : Tag) → tagArgs t noArgs ≡ noArgs
+tag-none (Plain k) = kind-none k
+tag-none (Named k) = refl
+tag-none Other = refl
+
+no-tidy : (a : Answer) → answerArgs a noArgs ≡ noArgs
+no-tidy (answers.Event (events.TickStart t) used) = refl
+no-tidy (answers.Event (events.TickEnd t) used) = refl
+no-tidy (answers.Event (events.PlayerNew c x y) used) = refl
+no-tidy (answers.Event (events.PlayerChange c x y old-x old-y) used) = refl
+no-tidy (answers.Event (events.PlayerOld c x y) used) = refl
+no-tidy (answers.Event (events.Input c former) used) = refl
+no-tidy (answers.Event (events.Record i) used) = tag-none (itemOf i .tag)
+no-tidy answers.More = refl
+no-tidy (answers.Finish used) = refl
+no-tidy (answers.Refused r) = refl
 
 pub args-none : (a : Answer) (s : Scalars) (w : List ℕ) → isRecord a ≡ false → ArgsFor a s w noArgs
 args-none a s w h =
@@ -93,7 +122,7 @@ args-none a s w h =
       said = λ m last e.
           let x = openCall s m w last .said in
           said-plain a noArgs h ∙ e ∙ slim-said x (same-record a x e ∙ h);
-      tidy = no-tidy;
+      tidy = λ m last e. no-tidy a;
     }
 
 -- ---- a record with its arguments
@@ -134,34 +163,51 @@ answer-beside (rests.Got next) r c n e o =
 answer-beside rests.RunsOut r c n e o = not-out e
 answer-beside (rests.Refused q) r c n e o = not-refused e
 
--- ---- the arguments that stand beside a record are padded
+-- ---- the arguments that stand beside a record are its own
 
-none-tidy : (xs : Args) → noArgs ≡ xs → Tidy xs
-none-tidy xs e = subst Tidy e no-tidy
+kind-kept : (k : Kind) (r : Record) → tidyKind k r .args ≡ kindArgs k (r .args)
+kind-kept (kinds.PlayerDiff c) r = refl
+kind-kept kinds.Finish r = refl
+kind-kept kinds.TickSkip r = refl
+kind-kept (kinds.PlayerNew c) r = refl
+kind-kept (kinds.PlayerOld c) r = refl
+kind-kept kinds.InputDiff r = refl
+kind-kept kinds.InputNew r = refl
+kind-kept kinds.Message r = refl
+kind-kept kinds.Join r = refl
+kind-kept kinds.Drop r = refl
+kind-kept kinds.ConsoleCommand r = refl
+kind-kept kinds.Ex r = refl
 
-kind-tidy : (k : Kind) (r : Record) → tidyKind k r .args ≡ r .args → Tidy (r .args)
-kind-tidy (kinds.PlayerDiff c) r e = none-tidy _ e
-kind-tidy kinds.Finish r e = none-tidy _ e
-kind-tidy kinds.TickSkip r e = none-tidy _ e
-kind-tidy (kinds.PlayerNew c) r e = none-tidy _ e
-kind-tidy (kinds.PlayerOld c) r e = none-tidy _ e
-kind-tidy kinds.InputDiff r e = none-tidy _ e
-kind-tidy kinds.InputNew r e = none-tidy _ e
-kind-tidy kinds.Message r e = none-tidy _ e
-kind-tidy kinds.Join r e = none-tidy _ e
-kind-tidy kinds.Drop r e = none-tidy _ e
-kind-tidy kinds.ConsoleCommand r e = e
-kind-tidy kinds.Ex r e = none-tidy _ e
+tag-kept : (t : Tag) (r : Record) → tidyTag t r .args ≡ tagArgs t (r .args)
+tag-kept (Plain k) r = kind-kept k r
+tag-kept (Named k) r = refl
+tag-kept Other r = refl
 
-tag-tidy : (t : Tag) (r : Record) → tidyTag t r .args ≡ r .args → Tidy (r .args)
-tag-tidy (Plain k) r e = kind-tidy k r e
-tag-tidy (Named k) r e = none-tidy _ e
-tag-tidy Other r e = none-tidy _ e
+answer-kept : (a : RecordAnswer) (r : Record) (c : Content Part) (n : ℕ) → answerIs a r ≡ got c n → tidyAnswer a r .args ≡ r .args
+    → tagArgs (c .tag) (r .args) ≡ r .args
+answer-kept (rests.Got next) r c n e t =
+    let p : recordOf r ≡ c = cc in
+    let q : tagArgs (itemOf (r .item) .tag) (r .args) ≡ r .args = sym (tag-kept (itemOf (r .item) .tag) r) ∙ t in
+    subst (λ (d : Content Part). tagArgs (d .tag) (r .args) ≡ r .args) p q
+answer-kept rests.RunsOut r c n e t = not-out e
+answer-kept (rests.Refused q) r c n e t = not-refused e
 
-answer-tidy : (a : RecordAnswer) (r : Record) → tidyAnswer a r .args ≡ r .args → Tidy (r .args)
-answer-tidy (rests.Got next) r e = tag-tidy (itemOf (r .item) .tag) r e
-answer-tidy rests.RunsOut r e = none-tidy _ e
-answer-tidy (rests.Refused q) r e = none-tidy _ e
+-- the code's answer is of the record's tag
+said-kept : (a : Answer) (xs : Args) (c : Content Part) (n : ℕ) → isRecord a ≡ true → saidIs a ≡ gives (other (ownContent c)) n
+    → tagArgs (c .tag) xs ≡ xs → answerArgs a xs ≡ xs
+said-kept (answers.Event (events.TickStart t) used) xs c n h e b = no-other h
+said-kept (answers.Event (events.TickEnd t) used) xs c n h e b = no-other h
+said-kept (answers.Event (events.PlayerNew k x y) used) xs c n h e b = no-other h
+said-kept (answers.Event (events.PlayerChange k x y old-x old-y) used) xs c n h e b = no-other h
+said-kept (answers.Event (events.PlayerOld k x y) used) xs c n h e b = no-other h
+said-kept (answers.Event (events.Input k former) used) xs c n h e b = no-other h
+said-kept (answers.Event (events.Record i) used) xs c n h e b =
+    let p : itemOf i ≡ ownContent c = cc in
+    subst (λ (d : Content Part). tagArgs (d .tag) xs ≡ xs) (sym p) b
+said-kept answers.More xs c n h e b = no-other h
+said-kept (answers.Finish used) xs c n h e b = no-other h
+said-kept (answers.Refused r) xs c n h e b = no-other h
 
 -- ---- where the kind was read
 
@@ -183,7 +229,7 @@ module _ (a : Answer) (s : Scalars) (w : List ℕ) (h : isRecord a ≡ true) (r 
           said = λ m last q.
               let f = given (reads.Got kind n) e m last q in
               from-rest noArgs m last kind n q f (whole-got w kind n (f .content) (f .used) (f .kind) p (f .read));
-          tidy = no-tidy;
+          tidy = λ m last q. no-tidy a;
         }
 
     pub args-command : (kind : Kind) (n : ℕ) → r ≡ reads.Got kind n → (x : RecordRead) → RestRead kind w n x → ArgsFor a s w (x .value .args)
@@ -193,11 +239,14 @@ module _ (a : Answer) (s : Scalars) (w : List ℕ) (h : isRecord a ≡ true) (r 
               let f = given (reads.Got kind n) e m last q in
               from-rest (x .value .args) m last kind n q f
               (answer-beside (x .answer) (x .value) (f .content) (f .used) (t .values ∙ f .read) (f .tag));
-          tidy = answer-tidy (x .answer) (x .value) (ap (λ (v : Record). v .args) (t .tidy));
+          tidy = λ m last q.
+              let f = given (reads.Got kind n) e m last q in
+              said-kept a (x .value .args) (f .content) (f .used) h (q ∙ ap slimSaid (f .said))
+              (answer-kept (x .answer) (x .value) (f .content) (f .used) (t .values ∙ f .read) (ap (λ (v : Record). v .args) (t .tidy)));
         }
 
     pub args-out : r ≡ reads.RunsOut → ArgsFor a s w noArgs
-    args-out e = record { said = λ m last q. absurd (given reads.RunsOut e m last q); tidy = no-tidy }
+    args-out e = record { said = λ m last q. absurd (given reads.RunsOut e m last q); tidy = λ m last q. no-tidy a }
 
     pub args-refused : (q : Refusal) → r ≡ reads.Refused q → ArgsFor a s w noArgs
-    args-refused z e = record { said = λ m last q. absurd (given (reads.Refused z) e m last q); tidy = no-tidy }
+    args-refused z e = record { said = λ m last q. absurd (given (reads.Refused z) e m last q); tidy = λ m last q. no-tidy a }

@@ -8,9 +8,11 @@ use lib.IntN.{ℤ, pos, negsuc}
 use Rattle.fields.specs.Views.{zeros, argsWith}
 use Rattle.fields.specs.declared.Args.{Args}
 use Rattle.item.specs.Said.{Said, gives, more, finish, refusing}
-use Rattle.item.specs.Contents.{itemOf, withBeside}
+use Rattle.item.specs.Contents.{itemOf, withBeside, noArgs}
 use Rattle.item.specs.declared.Kind.{Kind}
 use Rattle.item.specs.declared.Kind.the-variants as kinds
+use Rattle.item.specs.declared.Tag.{Tag}
+use Rattle.item.specs.declared.Tag.the-variants.{Plain, Named, Other}
 use Rattle.state.specs.State.{Memory, present, xOf, yOf, holds, tenOf}
 use Rattle.state.specs.Reading.{Event, other, Step, openCall, readCall, readerAfter}
 use Rattle.state.specs.Views.{eventIs, saidIs, slimSaid}
@@ -43,9 +45,40 @@ saidWith answers.More xs = more
 saidWith (answers.Finish used) xs = finish used
 saidWith (answers.Refused r) xs = refusing r
 
--- as many parts as the count says; the others are empty
-abbrev pub Tidy : Args → Type 0
-Tidy xs = argsWith (take (xs .count) (xs .parts)) ≡ xs
+-- arguments stand beside a command alone, as many parts as the count says, the others empty; elsewhere there are none
+abbrev pub kindArgs : Kind → Args → Args
+kindArgs (kinds.PlayerDiff c) xs = noArgs
+kindArgs kinds.Finish xs = noArgs
+kindArgs kinds.TickSkip xs = noArgs
+kindArgs (kinds.PlayerNew c) xs = noArgs
+kindArgs (kinds.PlayerOld c) xs = noArgs
+kindArgs kinds.InputDiff xs = noArgs
+kindArgs kinds.InputNew xs = noArgs
+kindArgs kinds.Message xs = noArgs
+kindArgs kinds.Join xs = noArgs
+kindArgs kinds.Drop xs = noArgs
+kindArgs kinds.ConsoleCommand xs = argsWith (take (xs .count) (xs .parts))
+kindArgs kinds.Ex xs = noArgs
+
+abbrev pub tagArgs : Tag → Args → Args
+tagArgs (Plain k) xs = kindArgs k xs
+tagArgs (Named k) xs = noArgs
+tagArgs Other xs = noArgs
+
+abbrev pub eventArgs : code.Event → Args → Args
+eventArgs (events.TickStart t) xs = noArgs
+eventArgs (events.TickEnd t) xs = noArgs
+eventArgs (events.PlayerNew c x y) xs = noArgs
+eventArgs (events.PlayerChange c x y old-x old-y) xs = noArgs
+eventArgs (events.PlayerOld c x y) xs = noArgs
+eventArgs (events.Input c former) xs = noArgs
+eventArgs (events.Record i) xs = tagArgs (itemOf i .tag) xs
+
+abbrev pub answerArgs : Answer → Args → Args
+answerArgs (answers.Event e used) xs = eventArgs e xs
+answerArgs answers.More xs = noArgs
+answerArgs (answers.Finish used) xs = noArgs
+answerArgs (answers.Refused r) xs = noArgs
 
 abbrev pub recordEvent : code.Event → Bool
 recordEvent (events.TickStart t) = false
@@ -66,13 +99,13 @@ abbrev pub readAnswer : Answer → Scalars → Entries → List ℤ → List ℤ
 readAnswer a s e ten former xs =
     record { answer = a; reader = record { scalars = s; entries = e }; input = ten; former = former; args = xs }
 
--- what a call says, the reader that it leaves, the ten numbers and the former ten, and arguments that are padded with empty parts
+-- what a call says, the reader that it leaves, the ten numbers and the former ten, and no arguments but a command's
 pub record Tells (t : Step) (r : ReadAnswer) : Type 0 where
   pub said : saidWith (r .answer) (r .args) ≡ t .said
   pub left : r .reader ≡ readerAfter t
   pub input : r .input ≡ t .memory .input
   pub former : r .former ≡ t .memory .former
-  pub args : Tidy (r .args)
+  pub args : answerArgs (r .answer) (r .args) ≡ r .args
 
 abbrev pub ReadIs : Reader → List ℕ → Bool → ReadAnswer → Type 0
 ReadIs reader w last r = Tells (readCall reader w last) r
@@ -97,7 +130,7 @@ isCommand kinds.Ex = false
 pub record ArgsFor (a : Answer) (s : Scalars) (w : List ℕ) (xs : Args) : Type 0 where
   pub said :
       (m : Memory) (last : Bool) → saidIs a ≡ slimSaid (openCall s m w last .said) → saidWith a xs ≡ openCall s m w last .said
-  pub tidy : Tidy xs
+  pub tidy : (m : Memory) (last : Bool) → saidIs a ≡ slimSaid (openCall s m w last .said) → answerArgs a xs ≡ xs
 
 -- ---- lookups
 

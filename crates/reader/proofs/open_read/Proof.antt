@@ -15,7 +15,7 @@ returns c =
       left = ap readerAfter e;
       input = ap (λ (t : Step). t .memory .input) e;
       former = ap (λ (t : Step). t .memory .former) e;
-      args = c .before .args-of .ensures .tidy;
+      args = c .before .args-of .ensures .tidy (memoryOf (a .entries)) (a .last) (ap (λ (t : Step). t .said) e);
     })
 
 pub open-read-spec : {M : Type 1} → statement M
