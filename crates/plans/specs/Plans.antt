@@ -1,4 +1,4 @@
--- The plan of a record's written form, as the code has it: each field is there or not.
+-- The plan of a record's written form, as the code has it: each field is there or not. Assumes nothing.
 use Prim.Native.Nat.{ℕ, _-_}
 use mathlib.Core.Bool.{Bool, true, false, cond, _&&_}
 use mathlib.Core.List.{List, [], _∷_, _++_, map}

@@ -5,7 +5,7 @@ use mathlib.Core.List.{List, [], _++_}
 use native.Mathlib.Omega.{arith}
 use native.Mathlib.Nat.{add-zero}
 use lib.ListN.{length, length-append}
-use Rattle.varint.specs.Written.{wrote, written, wroteIf, writtenIf}
+use Rattle.varint.specs.Written.{wrote, written}
 use Rattle.varint.specs.declared.Wrote.{Wrote}
 use Rattle.varint.proofs.Writing.{fits-answer}
 use Rattle.packer.proofs.Joined.{written-length, joined, nothing-put}
@@ -15,11 +15,6 @@ use Rattle.record_writer.specs.Puts.{pastOf, HasRoom, Puts}
 pub put-past : (xs : List ℕ) (at : ℕ) (bs : List ℕ) → HasRoom xs at bs → {w : Wrote} {ys : List ℕ} {next : ℕ}
     → w ≡ wrote xs at bs → ys ≡ written xs at bs → next ≡ pastOf w at → Puts xs at bs next ys
 put-past xs at bs h p q r = (r ∙ ap (λ v. pastOf v at) (p ∙ sym (fits-answer xs at bs h)), q)
-
--- the same of a call that wrote them because c holds, which i && c tells
-pub put-if : (xs : List ℕ) (at : ℕ) (bs : List ℕ) → HasRoom xs at bs → (i c : Bool) → i && c ≡ true → {w : Wrote} {ys : List ℕ} {next : ℕ}
-    → w ≡ wroteIf c xs at bs → ys ≡ writtenIf c xs at bs → next ≡ pastOf w at → Puts xs at bs next ys
-put-if xs at bs h i c e p q r = let k = and-eq-true-iff i c .0 e .1 in put-past xs at bs h (rw k at p) (rw k at q) r
 
 pub put-none : (xs : List ℕ) (at : ℕ) → HasRoom xs at [] → Puts xs at [] at xs
 put-none xs at h = (sym (add-zero at), nothing-put xs at (omega arith))
