@@ -1,6 +1,6 @@
 // Many reading calls in one: the events as rows of numbers in lent memory.
 ghost use mathlib.Core.Path.{_≡_};
-ghost use mathlib.Core.List.{[], _∷_};
+ghost use mathlib.Core.List.{[], _∷_, _++_};
 ghost use Prim.Native.Nat.{_+_, _*_, _/_, _≤_, min};
 ghost use lib.ListN.{length};
 ghost use lib.IntN.{pos};
@@ -138,7 +138,16 @@ fn put_ten(tens: &mut [i32], at: usize, ten: [i32; 10])
     }
 }
 
-// Event i in its places, used and pending as numbers of its row; the ten numbers and the former ten of an input.
+// The ten numbers and the former ten of an input.
+fn put_tens(tens: &mut [i32], at: usize, input: [i32; 10], former: [i32; 10])
+    requires { ⌜ at + 20 ≤ length (now tens) ⌝ }
+    ensures { λ _. ⌜ now (tens .exit) ≡ put (now (tens .entry)) at (input ++ former) ⌝ }
+{
+    put_ten(&mut *tens, at, input);
+    put_ten(tens, at + 10, former);
+}
+
+// Event i in its places, used and pending as numbers of its row.
 fn put_event(
     event: Event,
     used: i32,
@@ -167,8 +176,7 @@ fn put_event(
         Event::PlayerOld { cid, x, y } => put_row(rows, at, 5, used, cid, x, y, 0, 0),
         Event::Input { cid, former: had } => {
             put_row(rows, at, 6, used, cid, flag_of(had), 0, 0, 0);
-            put_ten(&mut *tens, 20 * i, *input);
-            put_ten(tens, 20 * i + 10, *former);
+            put_tens(tens, 20 * i, *input, *former);
         }
         Event::Record(item) => put_record(item, used, pending, rows, at),
     }
