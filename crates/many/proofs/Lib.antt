@@ -2,3 +2,4 @@ pub mod Puts
 pub mod Frame
 pub mod Slims
 pub mod Runs
+pub mod Turns
