@@ -3,3 +3,4 @@ pub mod Frame
 pub mod Slims
 pub mod Runs
 pub mod Turns
+pub mod Edges
