@@ -1,0 +1,6 @@
+pub mod Puts
+pub mod Frame
+pub mod Slims
+pub mod Runs
+pub mod Turns
+pub mod Edges
