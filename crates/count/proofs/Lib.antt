@@ -1,2 +1,3 @@
 pub mod Runs
 pub mod Singles
+pub mod Manies

@@ -1,10 +1,10 @@
 -- Runs of calls: what a first call adds to the number of events. Assumes nothing.
-use Prim.Native.Nat.{ℕ, zero, suc, _+_, _≤_, zero-le}
+use Prim.Native.Nat.{ℕ, zero, suc, _+_, _-_, _≤_, zero-le}
 use native.Mathlib.Omega.{arith}
 use mathlib.Core.Path.{_≡_, refl, sym, ap, _∙_}
 use mathlib.Core.Bool.{Bool}
 use mathlib.Core.List.{List, []}
-use lib.ListN.{length, drop}
+use lib.ListN.{length, drop, length-drop}
 use lib.Seq.{drop-drop}
 use lib.IntN.{ℤ}
 use Rattle.item.specs.Said.{Said, gives, more, finish, refuses}
@@ -130,3 +130,21 @@ pub few : (k : ℕ) (r : Reader) (w : List ℕ) (last : Bool) → events k r w l
 unfolding calls
 few zero r w last = zero-le
 few (suc k) r w last = few-said k r w last (λ q v. few k q v last) (readCall r w last .said)
+
+-- a run uses at most the window
+used-said :
+    (k : ℕ) (r : Reader) (w : List ℕ) (last : Bool) (f : (q : Reader) (v : List ℕ) → calls k q v last .used ≤ length v) (s : Said Event)
+    → usedIn s ≤ length w → after k r w last s .used ≤ length w
+used-said k r w last f (gives e n) h =
+    let g = f (readerAfter (readCall r w last)) (drop n w) in
+    let l : length (drop n w) ≡ length w - n = length-drop n w in
+    omega (arith, g, l, h)
+used-said k r w last f more h = zero-le
+used-said k r w last f (finish n) h = h
+used-said k r w last f (refuses j vs) h = zero-le
+
+pub run-within : (k : ℕ) (r : Reader) (w : List ℕ) (last : Bool) → calls k r w last .used ≤ length w
+unfolding calls
+run-within zero r w last = zero-le
+run-within (suc k) r w last =
+    used-said k r w last (λ q v. run-within k q v last) (readCall r w last .said) (call-within r w last)
