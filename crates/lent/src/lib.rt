@@ -32,7 +32,39 @@ fn good_call(
             scalars: s,
         };
     }
-    step::open_call(
-        s, marks, xs, ys, held, inputs, input, former, w, last,
-    )
+    step::open_call(s, marks, xs, ys, held, inputs, input, former, w, last)
+}
+
+// The reading call: the scalars lent are those that it leaves.
+pub fn read_lent(
+    scalars: &mut Scalars,
+    marks: &mut [u8; 128],
+    xs: &mut [i32; 128],
+    ys: &mut [i32; 128],
+    held: &mut [u8; 128],
+    inputs: &mut [i32; 1280],
+    input: &mut [i32; 10],
+    former: &mut [i32; 10],
+    w: &[u8],
+    last: bool,
+) -> Answer
+    ensures { λ r. ⌜
+        step (saidIs r) (now (scalars .exit)) (memory (now (marks .exit)) (now (xs .exit)) (now (ys .exit)) (now (held .exit)) (now (inputs .exit)) (now (input .exit)) (now (former .exit)))
+        ≡ slimStep (goodCall (now (scalars .entry)) (memory (now (marks .entry)) (now (xs .entry)) (now (ys .entry)) (now (held .entry)) (now (inputs .entry)) (now (input .entry)) (now (former .entry))) (now (w .entry)) last)
+        ⌝ }
+{
+    let o = good_call(
+        *scalars,
+        marks,
+        xs,
+        ys,
+        held,
+        inputs,
+        input,
+        former,
+        w,
+        last,
+    );
+    *scalars = o.scalars;
+    o.answer
 }
