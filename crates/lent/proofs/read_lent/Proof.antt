@@ -17,65 +17,8 @@ use ghost.Atoms.{Atoms}
 use contract.Monad.{Fun, fact}
 use contract.Lifetimes.{Lfts, Shares, toks}
 use contract.Running.{givenOf, tables, tablesOf}
-use types.Kit.{
-  Given,
-  ‵,
-  raw,
-  some,
-  later,
-  _⊛_,
-  _$_,
-  _∵_,
-  !,
-  qed,
-  by,
-  move,
-  ⋆,
-  keep,
-  drop,
-  use1,
-  use2,
-  split,
-  join,
-  pick,
-  rewrite,
-  fsplit,
-  fsplit3,
-  fjoin,
-  fjoin3,
-  feqI,
-  suffices,
-  frame,
-  await,
-  done,
-}
-use types.Run.{
-  look,
-  look-raw,
-  init,
-  store-raw,
-  forget,
-  stop,
-  hop,
-  fld,
-  from,
-  load,
-  addr,
-  of-opd,
-  and-then,
-  no-more,
-  assigns,
-  land,
-  returns,
-  enter,
-  alloc1,
-  alloc0,
-  params1,
-  pass1,
-  pass0,
-  free1,
-  free0,
-}
+use types.Kit.{Given, ‵, raw, some, later, _⊛_, _$_, _∵_, !, qed, by, move, ⋆, keep, drop, use1, use2, split, join, pick, rewrite, fsplit, fsplit3, fjoin, fjoin3, feqI, suffices, frame, await, done}
+use types.Run.{look, look-raw, init, store-raw, forget, stop, hop, fld, from, load, addr, of-opd, and-then, no-more, assigns, land, returns, enter, alloc1, alloc0, params1, pass1, pass0, free1, free0}
 use types.Part.{whole, sub, look-in}
 use types.SemTy.{Body}
 use sound.WpLaws.{FmC, fmOf, WpFn-mono}
@@ -98,22 +41,7 @@ use denote.Triple.Entry.{onEntry}
 use denote.Triple.Spec.{Meets, tripleOf}
 use denote.Triple.Table.{entered, cited}
 use denote.Triple.Clauses.{ensured, lasts}
-use denote.Triple.Walked.{
-  says,
-  Stays,
-  stay-ref,
-  stay-dropped,
-  gave-ref,
-  walkOf,
-  AllGo,
-  goes-dropped,
-  goes-ref,
-  goes-gave-ref,
-  Walks,
-  ends-at,
-  walked,
-  walk-meets,
-}
+use denote.Triple.Walked.{says, Stays, stay-ref, stay-dropped, gave-ref, walkOf, AllGo, goes-dropped, goes-ref, goes-gave-ref, Walks, ends-at, walked, walk-meets}
 use Rattle.state.specs.declared.Scalars.{Scalars}
 use Rattle.state.specs.declared.Outcome.{Outcome}
 use Rattle.state.proofs.Scalars as T
@@ -122,25 +50,7 @@ use Rattle.state.proofs.Answer as E
 use Rattle.state.proofs.Answer.Laws as E′
 use Rattle.state.proofs.Outcome as O
 use Rattle.state.proofs.Outcome.Laws as O′
-use Rattle.lent.proofs.Lending.{
-  Marks,
-  Places,
-  Inputs,
-  Ten,
-  Lent,
-  rows,
-  window,
-  flag,
-  valsOf,
-  machsOf,
-  Left,
-  lasting,
-  Says,
-  mach,
-  told,
-  answer-is,
-  scalars-are,
-}
+use Rattle.lent.proofs.Lending.{Marks, Places, Inputs, Ten, Lent, rows, window, flag, valsOf, machsOf, Left, lasting, Says, mach, told, answer-is, scalars-are}
 use Rattle.lent.proofs.good_call as good-call
 use Rattle.lent.proofs.good_call.Symbol as good-call-def
 use Rattle.lent.proofs.good_call.Symbol.{name as #lent·good-call}
@@ -151,37 +61,8 @@ use Rattle.lent.proofs.read_lent.Statement as stated
 use Rattle.lent.proofs.read_lent.Code as code
 
 abbrev stayed : Stays (read-lent.ended .signature .params) (read-lent.ended .kept)
-stayed = (
-  stay-ref (0 ∷ []) tt (plain (λ _. T.the-row)),
-  (
-    gave-ref (1 ∷ []) tt (plain (λ _. Marks)),
-    (
-      gave-ref (2 ∷ []) tt (plain (λ _. Places)),
-      (
-        gave-ref (3 ∷ []) tt (plain (λ _. Places)),
-        (
-          gave-ref (4 ∷ []) tt (plain (λ _. Marks)),
-          (
-            gave-ref (5 ∷ []) tt (plain (λ _. Inputs)),
-            (
-              gave-ref (6 ∷ []) tt (plain (λ _. Ten)),
-              (
-                gave-ref (7 ∷ []) tt (plain (λ _. Ten)),
-                (
-                  stay-dropped (shrSliceOf (8 ∷ []) tt (plain (λ _. u8))) yes,
-                  (
-                    stay-dropped (plain (λ _. Boolean)) yes,
-                    tt,
-                  ),
-                ),
-              ),
-            ),
-          ),
-        ),
-      ),
-    ),
-  ),
-)
+stayed =
+    (stay-ref (0 ∷ []) tt (plain (λ _. T.the-row)), (gave-ref (1 ∷ []) tt (plain (λ _. Marks)), (gave-ref (2 ∷ []) tt (plain (λ _. Places)), (gave-ref (3 ∷ []) tt (plain (λ _. Places)), (gave-ref (4 ∷ []) tt (plain (λ _. Marks)), (gave-ref (5 ∷ []) tt (plain (λ _. Inputs)), (gave-ref (6 ∷ []) tt (plain (λ _. Ten)), (gave-ref (7 ∷ []) tt (plain (λ _. Ten)), (stay-dropped (shrSliceOf (8 ∷ []) tt (plain (λ _. u8))) yes, (stay-dropped (plain (λ _. Boolean)) yes, tt))))))))))
 
 -- the contract that the walk cites
 abbrev GoodCall : {M : Type 1} (𝓤 : URA M) (H : Heap 𝓤) (A : Atoms 𝓤) (at-mem : Memory → SProp 𝓤) (run : Routine → Fun 𝓤) → Contract 𝓤
@@ -304,72 +185,13 @@ module _ {M : Type 1} (𝓤 : URA M) (H : Heap 𝓤) (A : Atoms 𝓤) (W : Given
   walks C Λ fm known =
       walked 𝓤 H A read-lent.ended stayed (read-lent.clauses 𝓤 H A at-mem run) (WpFn 𝓤 H C Λ code.function)
       (λ κs. (ptr-vals, (ptr-vals, (ptr-vals, (ptr-vals, (ptr-vals, (ptr-vals, (ptr-vals, (ptr-vals, (slice-vals, (bool-vals, tt)))))))))))
-      (λ κs. (
-        mut-tells (named 0) (κs .0) T.the-row,
-        (
-          mut-tells (named 1) (κs .1 .0) Marks,
-          (
-            mut-tells (named 2) (κs .1 .1 .0) Places,
-            (
-              mut-tells (named 3) (κs .1 .1 .1 .0) Places,
-              (
-                mut-tells (named 4) (κs .1 .1 .1 .1 .0) Marks,
-                (
-                  mut-tells (named 5) (κs .1 .1 .1 .1 .1 .0) Inputs,
-                  (
-                    mut-tells (named 6) (κs .1 .1 .1 .1 .1 .1 .0) Ten,
-                    (
-                      mut-tells (named 7) (κs .1 .1 .1 .1 .1 .1 .1 .0) Ten,
-                      (
-                        shr-slice-tells (named 8) (κs .1 .1 .1 .1 .1 .1 .1 .1 .0) u8,
-                        (
-                          bool-tells,
-                          tt,
-                        ),
-                      ),
-                    ),
-                  ),
-                ),
-              ),
-            ),
-          ),
-        ),
-      ))
+      (λ κs. (mut-tells (named 0) (κs .0) T.the-row, (mut-tells (named 1) (κs .1 .0) Marks, (mut-tells (named 2) (κs .1 .1 .0) Places, (mut-tells (named 3) (κs .1 .1 .1 .0) Places, (mut-tells (named 4) (κs .1 .1 .1 .1 .0) Marks, (mut-tells (named 5) (κs .1 .1 .1 .1 .1 .0) Inputs, (mut-tells (named 6) (κs .1 .1 .1 .1 .1 .1 .0) Ten, (mut-tells (named 7) (κs .1 .1 .1 .1 .1 .1 .1 .0) Ten, (shr-slice-tells (named 8) (κs .1 .1 .1 .1 .1 .1 .1 .1 .0) u8, (bool-tells, tt)))))))))))
       (λ κs qs bounds a _ are.
       via 𝓤 _ (fst∗ 𝓤 _ (emp 𝓤)) (walk 𝓤 H A W at-mem run κs qs (a .0) (a .1) C Λ fm known (are .1 .1 .1 .1 .1 .1 .1 .1 .0) (are .1 .1 .1 .1 .1 .1 .1 .1 .1 .0)))
 
   all-go : AllGo 𝓤 H A W 9 (read-lent.signature .params) (read-lent.ended .kept) stayed
-  all-go = (
-    goes-ref 𝓤 H A W 9 0 tt (plain (λ _. T.the-row)),
-    (
-      goes-gave-ref 𝓤 H A W 9 1 tt (plain (λ _. Marks)),
-      (
-        goes-gave-ref 𝓤 H A W 9 2 tt (plain (λ _. Places)),
-        (
-          goes-gave-ref 𝓤 H A W 9 3 tt (plain (λ _. Places)),
-          (
-            goes-gave-ref 𝓤 H A W 9 4 tt (plain (λ _. Marks)),
-            (
-              goes-gave-ref 𝓤 H A W 9 5 tt (plain (λ _. Inputs)),
-              (
-                goes-gave-ref 𝓤 H A W 9 6 tt (plain (λ _. Ten)),
-                (
-                  goes-gave-ref 𝓤 H A W 9 7 tt (plain (λ _. Ten)),
-                  (
-                    goes-dropped 𝓤 H A W 9 (shrSliceOf (8 ∷ []) tt (plain (λ _. u8))) yes (λ κs y f. refl),
-                    (
-                      goes-dropped 𝓤 H A W 9 (plain (λ _. Boolean)) yes (λ κs y f. refl),
-                      tt,
-                    ),
-                  ),
-                ),
-              ),
-            ),
-          ),
-        ),
-      ),
-    ),
-  )
+  all-go =
+      (goes-ref 𝓤 H A W 9 0 tt (plain (λ _. T.the-row)), (goes-gave-ref 𝓤 H A W 9 1 tt (plain (λ _. Marks)), (goes-gave-ref 𝓤 H A W 9 2 tt (plain (λ _. Places)), (goes-gave-ref 𝓤 H A W 9 3 tt (plain (λ _. Places)), (goes-gave-ref 𝓤 H A W 9 4 tt (plain (λ _. Marks)), (goes-gave-ref 𝓤 H A W 9 5 tt (plain (λ _. Inputs)), (goes-gave-ref 𝓤 H A W 9 6 tt (plain (λ _. Ten)), (goes-gave-ref 𝓤 H A W 9 7 tt (plain (λ _. Ten)), (goes-dropped 𝓤 H A W 9 (shrSliceOf (8 ∷ []) tt (plain (λ _. u8))) yes (λ κs y f. refl), (goes-dropped 𝓤 H A W 9 (plain (λ _. Boolean)) yes (λ κs y f. refl), tt))))))))))
 
 meets : {M : Type 1} (𝓤 : URA M) (H : Heap 𝓤) (A : Atoms 𝓤) (W : Given 𝓤 H A) (at-mem : Memory → SProp 𝓤) (run : Routine → Fun 𝓤) (𝓣 : Tables 𝓤 H)
     → Triple 𝓤 (𝓣 .C #lent·good-call) (GoodCall 𝓤 H A at-mem run)

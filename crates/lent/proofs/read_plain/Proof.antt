@@ -17,61 +17,9 @@ use ghost.Atoms.{Atoms}
 use contract.Monad.{Fun, fact}
 use contract.Lifetimes.{Lfts, Shares, toks}
 use contract.Running.{givenOf, tables, tablesOf}
-use types.Kit.{
-  Given,
-  ‵,
-  raw,
-  some,
-  later,
-  _⊛_,
-  _$_,
-  _∵_,
-  !,
-  qed,
-  by,
-  move,
-  ⋆,
-  keep,
-  drop,
-  use1,
-  use2,
-  use3,
-  split,
-  join,
-  pick,
-  rewrite,
-  fsplit,
-  fjoin,
-  suffices,
-  frame,
-  await,
-  done,
-}
+use types.Kit.{Given, ‵, raw, some, later, _⊛_, _$_, _∵_, !, qed, by, move, ⋆, keep, drop, use1, use2, use3, split, join, pick, rewrite, fsplit, fjoin, suffices, frame, await, done}
 use types.Tokens.{lft-new, lft-end}
-use types.Run.{
-  look,
-  init,
-  forget,
-  stop,
-  hop,
-  from,
-  load,
-  addr,
-  of-opd,
-  and-then,
-  no-more,
-  assigns,
-  land,
-  returns,
-  enter,
-  alloc1,
-  alloc0,
-  params1,
-  pass1,
-  pass0,
-  free1,
-  free0,
-}
+use types.Run.{look, init, forget, stop, hop, from, load, addr, of-opd, and-then, no-more, assigns, land, returns, enter, alloc1, alloc0, params1, pass1, pass0, free1, free0}
 use types.Part.{agg}
 use types.SemTy.{Body}
 use sound.WpLaws.{FmC, fmOf, WpFn-mono}
@@ -103,28 +51,7 @@ use Rattle.state.proofs.Answer as E
 use Rattle.state.proofs.Answer.Laws as E′
 use Rattle.state.proofs.Outcome as O
 use Rattle.state.proofs.Outcome.Laws as O′
-use Rattle.lent.proofs.Lending.{
-  Marks,
-  Places,
-  Inputs,
-  Ten,
-  Lent,
-  rows,
-  window,
-  flag,
-  valsOf,
-  machsOf,
-  Left,
-  lasting,
-  Says,
-  mach,
-  outcome,
-  gave,
-  answer-told,
-  outcome-is,
-  cell-in,
-  cell-out,
-}
+use Rattle.lent.proofs.Lending.{Marks, Places, Inputs, Ten, Lent, rows, window, flag, valsOf, machsOf, Left, lasting, Says, mach, outcome, gave, answer-told, outcome-is, cell-in, cell-out}
 use Rattle.lent.proofs.read_lent as read-lent
 use Rattle.lent.proofs.read_lent.Symbol as read-lent-def
 use Rattle.lent.proofs.read_lent.Symbol.{name as #lent·read-lent}
@@ -135,37 +62,8 @@ use Rattle.lent.proofs.read_plain.Statement as stated
 use Rattle.lent.proofs.read_plain.Code as code
 
 abbrev stayed : Stays (read-plain.ended .signature .params) (read-plain.ended .kept)
-stayed = (
-  stay-dropped (plain (λ _. T.the-row)) yes,
-  (
-    gave-ref (0 ∷ []) tt (plain (λ _. Marks)),
-    (
-      gave-ref (1 ∷ []) tt (plain (λ _. Places)),
-      (
-        gave-ref (2 ∷ []) tt (plain (λ _. Places)),
-        (
-          gave-ref (3 ∷ []) tt (plain (λ _. Marks)),
-          (
-            gave-ref (4 ∷ []) tt (plain (λ _. Inputs)),
-            (
-              gave-ref (5 ∷ []) tt (plain (λ _. Ten)),
-              (
-                gave-ref (6 ∷ []) tt (plain (λ _. Ten)),
-                (
-                  stay-dropped (shrSliceOf (7 ∷ []) tt (plain (λ _. u8))) yes,
-                  (
-                    stay-dropped (plain (λ _. Boolean)) yes,
-                    tt,
-                  ),
-                ),
-              ),
-            ),
-          ),
-        ),
-      ),
-    ),
-  ),
-)
+stayed =
+    (stay-dropped (plain (λ _. T.the-row)) yes, (gave-ref (0 ∷ []) tt (plain (λ _. Marks)), (gave-ref (1 ∷ []) tt (plain (λ _. Places)), (gave-ref (2 ∷ []) tt (plain (λ _. Places)), (gave-ref (3 ∷ []) tt (plain (λ _. Marks)), (gave-ref (4 ∷ []) tt (plain (λ _. Inputs)), (gave-ref (5 ∷ []) tt (plain (λ _. Ten)), (gave-ref (6 ∷ []) tt (plain (λ _. Ten)), (stay-dropped (shrSliceOf (7 ∷ []) tt (plain (λ _. u8))) yes, (stay-dropped (plain (λ _. Boolean)) yes, tt))))))))))
 
 -- the contract that the walk cites
 abbrev ReadLent : {M : Type 1} (𝓤 : URA M) (H : Heap 𝓤) (A : Atoms 𝓤) (at-mem : Memory → SProp 𝓤) (run : Routine → Fun 𝓤) → Contract 𝓤
@@ -285,72 +183,13 @@ module _ {M : Type 1} (𝓤 : URA M) (H : Heap 𝓤) (A : Atoms 𝓤) (W : Given
   walks C Λ fm known =
       walked 𝓤 H A read-plain.ended stayed (read-plain.clauses 𝓤 H A at-mem run) (WpFn 𝓤 H C Λ code.function)
       (λ κs. (LL.vals T.the-type T′.the-laws, (ptr-vals, (ptr-vals, (ptr-vals, (ptr-vals, (ptr-vals, (ptr-vals, (ptr-vals, (slice-vals, (bool-vals, tt)))))))))))
-      (λ κs. (
-        LL.tells T.the-type T′.the-laws,
-        (
-          mut-tells (named 0) (κs .0) Marks,
-          (
-            mut-tells (named 1) (κs .1 .0) Places,
-            (
-              mut-tells (named 2) (κs .1 .1 .0) Places,
-              (
-                mut-tells (named 3) (κs .1 .1 .1 .0) Marks,
-                (
-                  mut-tells (named 4) (κs .1 .1 .1 .1 .0) Inputs,
-                  (
-                    mut-tells (named 5) (κs .1 .1 .1 .1 .1 .0) Ten,
-                    (
-                      mut-tells (named 6) (κs .1 .1 .1 .1 .1 .1 .0) Ten,
-                      (
-                        shr-slice-tells (named 7) (κs .1 .1 .1 .1 .1 .1 .1 .0) u8,
-                        (
-                          bool-tells,
-                          tt,
-                        ),
-                      ),
-                    ),
-                  ),
-                ),
-              ),
-            ),
-          ),
-        ),
-      ))
+      (λ κs. (LL.tells T.the-type T′.the-laws, (mut-tells (named 0) (κs .0) Marks, (mut-tells (named 1) (κs .1 .0) Places, (mut-tells (named 2) (κs .1 .1 .0) Places, (mut-tells (named 3) (κs .1 .1 .1 .0) Marks, (mut-tells (named 4) (κs .1 .1 .1 .1 .0) Inputs, (mut-tells (named 5) (κs .1 .1 .1 .1 .1 .0) Ten, (mut-tells (named 6) (κs .1 .1 .1 .1 .1 .1 .0) Ten, (shr-slice-tells (named 7) (κs .1 .1 .1 .1 .1 .1 .1 .0) u8, (bool-tells, tt)))))))))))
       (λ κs qs bounds a _ are.
       via 𝓤 _ (fst∗ 𝓤 _ (emp 𝓤)) (walk 𝓤 H A W at-mem run κs qs (a .0) (a .1) C Λ fm known (are .0) (are .1 .1 .1 .1 .1 .1 .1 .1 .0) (are .1 .1 .1 .1 .1 .1 .1 .1 .1 .0)))
 
   all-go : AllGo 𝓤 H A W 8 (read-plain.signature .params) (read-plain.ended .kept) stayed
-  all-go = (
-    goes-dropped 𝓤 H A W 8 (plain (λ _. T.the-row)) yes (λ κs y f. refl),
-    (
-      goes-gave-ref 𝓤 H A W 8 0 tt (plain (λ _. Marks)),
-      (
-        goes-gave-ref 𝓤 H A W 8 1 tt (plain (λ _. Places)),
-        (
-          goes-gave-ref 𝓤 H A W 8 2 tt (plain (λ _. Places)),
-          (
-            goes-gave-ref 𝓤 H A W 8 3 tt (plain (λ _. Marks)),
-            (
-              goes-gave-ref 𝓤 H A W 8 4 tt (plain (λ _. Inputs)),
-              (
-                goes-gave-ref 𝓤 H A W 8 5 tt (plain (λ _. Ten)),
-                (
-                  goes-gave-ref 𝓤 H A W 8 6 tt (plain (λ _. Ten)),
-                  (
-                    goes-dropped 𝓤 H A W 8 (shrSliceOf (7 ∷ []) tt (plain (λ _. u8))) yes (λ κs y f. refl),
-                    (
-                      goes-dropped 𝓤 H A W 8 (plain (λ _. Boolean)) yes (λ κs y f. refl),
-                      tt,
-                    ),
-                  ),
-                ),
-              ),
-            ),
-          ),
-        ),
-      ),
-    ),
-  )
+  all-go =
+      (goes-dropped 𝓤 H A W 8 (plain (λ _. T.the-row)) yes (λ κs y f. refl), (goes-gave-ref 𝓤 H A W 8 0 tt (plain (λ _. Marks)), (goes-gave-ref 𝓤 H A W 8 1 tt (plain (λ _. Places)), (goes-gave-ref 𝓤 H A W 8 2 tt (plain (λ _. Places)), (goes-gave-ref 𝓤 H A W 8 3 tt (plain (λ _. Marks)), (goes-gave-ref 𝓤 H A W 8 4 tt (plain (λ _. Inputs)), (goes-gave-ref 𝓤 H A W 8 5 tt (plain (λ _. Ten)), (goes-gave-ref 𝓤 H A W 8 6 tt (plain (λ _. Ten)), (goes-dropped 𝓤 H A W 8 (shrSliceOf (7 ∷ []) tt (plain (λ _. u8))) yes (λ κs y f. refl), (goes-dropped 𝓤 H A W 8 (plain (λ _. Boolean)) yes (λ κs y f. refl), tt))))))))))
 
 meets : {M : Type 1} (𝓤 : URA M) (H : Heap 𝓤) (A : Atoms 𝓤) (W : Given 𝓤 H A) (at-mem : Memory → SProp 𝓤) (run : Routine → Fun 𝓤) (𝓣 : Tables 𝓤 H)
     → Triple 𝓤 (𝓣 .C #lent·read-lent) (ReadLent 𝓤 H A at-mem run)
