@@ -3,37 +3,9 @@ ghost use mathlib.Core.Path.{_≡_};
 ghost use Rattle.state.specs.State.{memory};
 ghost use Rattle.state.specs.Reading.{step, goodCall};
 ghost use Rattle.state.specs.Views.{saidIs, done, slimStep};
-use refusal::Refusal;
 use state::Answer;
 use state::Outcome;
 use state::Scalars;
-
-// A call on a good reader; a closed one is refused 18.
-fn good_call(
-    s: Scalars,
-    marks: &mut [u8; 128],
-    xs: &mut [i32; 128],
-    ys: &mut [i32; 128],
-    held: &mut [u8; 128],
-    inputs: &mut [i32; 1280],
-    input: &mut [i32; 10],
-    former: &mut [i32; 10],
-    w: &[u8],
-    last: bool,
-) -> Outcome
-    ensures { λ r. ⌜
-        done r (memory (now (marks .exit)) (now (xs .exit)) (now (ys .exit)) (now (held .exit)) (now (inputs .exit)) (now (input .exit)) (now (former .exit)))
-        ≡ slimStep (goodCall s (memory (now (marks .entry)) (now (xs .entry)) (now (ys .entry)) (now (held .entry)) (now (inputs .entry)) (now (input .entry)) (now (former .entry))) (now (w .entry)) last)
-        ⌝ }
-{
-    if s.closed {
-        return Outcome {
-            answer: Answer::Refused(Refusal::Closed),
-            scalars: s,
-        };
-    }
-    step::open_call(s, marks, xs, ys, held, inputs, input, former, w, last)
-}
 
 // The reading call: the scalars lent are those that it leaves.
 pub fn read_lent(
@@ -53,7 +25,7 @@ pub fn read_lent(
         ≡ slimStep (goodCall (now (scalars .entry)) (memory (now (marks .entry)) (now (xs .entry)) (now (ys .entry)) (now (held .entry)) (now (inputs .entry)) (now (input .entry)) (now (former .entry))) (now (w .entry)) last)
         ⌝ }
 {
-    let o = good_call(
+    let o = step::good_call(
         *scalars,
         marks,
         xs,

@@ -1,11 +1,11 @@
--- `lent::good_call` meets its contract. Assumes nothing.
+-- `step::good_call` meets its contract. Assumes nothing.
 use mathlib.Core.Path.{ap, _∙_}
 use Rattle.state.specs.Reading.{goodCall}
 use Rattle.state.specs.Views.{slimStep}
 use Rattle.state.proofs.Numbers.{picks-first, picks-second}
 use borrow.Author.Needs.{needs}
-use Rattle.lent.proofs.good_call.Statement.{statement}
-use Rattle.lent.proofs.good_call.Tie as tie
+use Rattle.step.proofs.good_call.Statement.{statement}
+use Rattle.step.proofs.good_call.Tie as tie
 
 returns : tie.Need-returns
 unfolding goodCall
