@@ -9,7 +9,7 @@ ghost use Rattle.item.specs.Records.{readRest};
 ghost use Rattle.item.specs.Said.{gives, finish};
 ghost use Rattle.item.specs.Views.{kindIs};
 ghost use Rattle.state.specs.State.{Memory, memory};
-ghost use Rattle.state.specs.Reading.{step, closing, nextKind, withRest, withRule, openCall};
+ghost use Rattle.state.specs.Reading.{step, closing, nextKind, withRest, withRule, openCall, goodCall};
 ghost use Rattle.state.specs.Views.{eventIs, done, slimStep};
 ghost use Rattle.step.specs.Kinds.{pairKind, inputKind, isOther};
 use fields::InputAnswer;
@@ -289,4 +289,31 @@ pub fn open_call(
         KindRead::RunsOut => state::run_out(s, last),
         KindRead::Refused(r) => state::refuse(s, r),
     }
+}
+
+// A call on a good reader: a closed one is refused 18.
+pub fn good_call(
+    s: Scalars,
+    marks: &mut [u8; 128],
+    xs: &mut [i32; 128],
+    ys: &mut [i32; 128],
+    held: &mut [u8; 128],
+    inputs: &mut [i32; 1280],
+    input: &mut [i32; 10],
+    former: &mut [i32; 10],
+    w: &[u8],
+    last: bool,
+) -> Outcome
+    ensures { λ r. ⌜
+        done r (memory (now (marks .exit)) (now (xs .exit)) (now (ys .exit)) (now (held .exit)) (now (inputs .exit)) (now (input .exit)) (now (former .exit)))
+        ≡ slimStep (goodCall s (memory (now (marks .entry)) (now (xs .entry)) (now (ys .entry)) (now (held .entry)) (now (inputs .entry)) (now (input .entry)) (now (former .entry))) (now (w .entry)) last)
+        ⌝ }
+{
+    if s.closed {
+        return Outcome {
+            answer: Answer::Refused(Refusal::Closed),
+            scalars: s,
+        };
+    }
+    open_call(s, marks, xs, ys, held, inputs, input, former, w, last)
 }
