@@ -1,7 +1,7 @@
 -- What the memory holds as ten numbers and former ten before a call is not seen: what the call says, the scalars and the entries that it
 -- leaves, and the twenty numbers after an input, are the same whatever they were. Assumes nothing.
 use Prim.Native.Nat.{ℕ}
-use mathlib.Core.Path.{_≡_, refl, subst}
+use mathlib.Core.Path.{_≡_, refl}
 use mathlib.Core.Bool.{Bool, true, false, cond}
 use mathlib.Core.List.{List, []}
 use lib.ListN.{drop}

@@ -1,37 +1,29 @@
 -- Calls one behind the other: what is done and what is left. Assumes nothing.
-use Prim.Native.Nat.{ℕ, zero, suc, _+_, _*_, _-_, _≤_, _<_, zero-le}
+use Prim.Native.Nat.{ℕ, suc, _+_, _*_, _≤_, zero-le}
 use mathlib.Core.Path.{_≡_, refl, sym, ap, subst, _∙_}
-use mathlib.Core.Bool.{Bool, true, false, cond}
-use mathlib.Core.List.{List, [], _∷_}
+use mathlib.Core.Bool.{Bool}
+use mathlib.Core.List.{List}
 use native.Mathlib.Omega.{arith}
 use native.Mathlib.Numerals.{add-one}
-use lib.ListN.{length, take, drop, length-drop}
-use lib.Seq.{take-all, drop-drop}
+use lib.ListN.{length, drop}
 use lib.IntN.{ℤ, pos}
-use Rattle.refusal.specs.declared.Refusal.{Refusal}
-use Rattle.refusal.specs.declared.Refusal.the-variants.{BadState}
 use Rattle.num.specs.Wrap.{wrap32}
-use Rattle.item.specs.Said.{Said, gives, more, finish, refuses, refusing}
+use Rattle.item.specs.Said.{Said}
 use Rattle.state.specs.State.{Memory, goodReader}
-use Rattle.state.specs.Reading.{Event, Step, step, openCall, goodCall, memoryOf, readCall, readerAfter}
-use Rattle.state.specs.Views.{eventIs, saidIs, done, slim, slimSaid, slimStep}
+use Rattle.state.specs.Reading.{Event, Step, goodCall, readCall, readerAfter}
+use Rattle.state.specs.Views.{eventIs, saidIs, done, slimSaid, slimStep}
 use Rattle.state.specs.Laws.{usedIn, Sound}
 use Rattle.state.specs.declared.Scalars.{Scalars}
 use Rattle.state.specs.declared.Reader.{Reader}
 use Rattle.state.specs.declared.Event as code
-use Rattle.state.specs.declared.Answer.{Answer}
 use Rattle.state.specs.declared.Answer.the-variants as answers
 use Rattle.state.specs.declared.Outcome.{Outcome}
 use Rattle.state.proofs.Every.{by-cond}
-use Rattle.state.proofs.Numbers.{picks-first, picks-second}
+use Rattle.state.proofs.Numbers.{picks-first}
 use Rattle.state.proofs.Theorems.{open-call-keeps, readers-stay-sound}
 use Rattle.many.specs.Many.{
   Seen,
   Halt,
-  isFull,
-  wantsMore,
-  finishes,
-  isRefused,
   Run,
   isPending,
   seenBy,
@@ -50,12 +42,10 @@ use Rattle.many.specs.Many.{
   haltOf,
   Tells,
 }
-use Rattle.many.specs.Stores.{Room, EventPut}
+use Rattle.many.specs.Stores.{EventPut, readerWith}
 use Rattle.many.specs.declared.Stop.{Stop}
-use Rattle.many.specs.declared.Stop.the-variants as stops
-use Rattle.many.specs.declared.ManyAnswer.{ManyAnswer}
 use Rattle.many.proofs.Frame.{saidTens, Alike, good-alike}
-use Rattle.many.proofs.Slims.{slim-row, slim-tens, slim-used, Gave, gave, said-more, said-finish, said-refuses}
+use Rattle.many.proofs.Slims.{slim-row, slim-tens, slim-used, Gave, gave}
 
 -- ---- a run of which count events with used bytes are done, and rest is left
 
@@ -101,7 +91,7 @@ module _ {run : Run} {count used : ℕ} {rows₀ tens₀ rows₁ tens₁ : List 
 -- ---- one call on a sound reader, with the ten numbers and the former ten that the last input left
 
 abbrev pub readerOf : Scalars → Memory → Reader
-readerOf s m = record { scalars = s; entries = m .entries }
+readerOf s m = readerWith s (m .entries)
 
 module _ (s : Scalars) (m : Memory) (w : List ℕ) (last : Bool) (sound : Sound (readerOf s m)) where
   call-alike : Alike (goodCall s m w last) (readCall (readerOf s m) w last)
@@ -130,11 +120,11 @@ module _ (s : Scalars) (m : Memory) (w : List ℕ) (last : Bool) (sound : Sound 
     uses = rw (ap (λ (t : Step). usedIn (t .said)) e ∙ slim-used (goodCall s m w last .said)) call-uses
 
     -- by what the call says
-    pub ends : (k : ℕ) (x : Said Event) → readCall (readerOf s m) w last .said ≡ x → calls (suc k) (readerOf s m) w last
+    pub by-said : (k : ℕ) (x : Said Event) → readCall (readerOf s m) w last .said ≡ x → calls (suc k) (readerOf s m) w last
         ≡ onSaid x (λ d n. before (seenBy (readerOf s m) (readCall (readerOf s m) w last) d n) (calls k (readerOf (o .scalars) m') (drop n w) last))
         (readerOf (o .scalars) m')
     unfolding calls
-    ends k x h =
+    by-said k x h =
         λ i. onSaid (h i)
         (λ d n. before (seenBy (readerOf s m) (readCall (readerOf s m) w last) d n) (calls k (sym left-is i) (drop n w) last))
         (sym left-is i)
@@ -156,7 +146,6 @@ module _ (s : Scalars) (m : Memory) (w : List ℕ) (last : Bool) (sound : Sound 
       unfolding tensOf
       tens-are =
           let t = readCall (readerOf s m) w last in
-          let g = goodCall s m w last in
           ap (λ (x : Said Event). saidTens x (t .memory)) (sym (given .said))
           ∙ sym (call-alike .tens)
           ∙ (λ i. saidTens ((call-alike .said ∙ given .said) i) (sym (ap (λ (u : Step). u .memory) e) i))
@@ -168,4 +157,4 @@ module _ (s : Scalars) (m : Memory) (w : List ℕ) (last : Bool) (sound : Sound 
           → EventPut (eventIs v) (wrap32 (pos n)) (flag (isPending (s .pending))) count (m' .input) (m' .former) rows₁ tens₁ rows₂ tens₂
           → Behind run (calls k (readerOf (o .scalars) m') (drop n w) last) (count + 1) (used + n) rows₀ tens₀ rows₂ tens₂
       goes-on k rows₂ tens₂ b p =
-          rw (p .rows, p .tens, ← row-is, ← tens-are) (one-more seen _ (rw (ends k _ (given .said)) at b))
+          rw (p .rows, p .tens, ← row-is, ← tens-are) (one-more seen _ (rw (by-said k _ (given .said)) at b))

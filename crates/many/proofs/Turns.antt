@@ -21,7 +21,7 @@ use Rattle.many.specs.Many.{Run, isPending, calls, flag, Tells}
 use Rattle.many.specs.Stores.{EventPut}
 use Rattle.many.specs.declared.Stop.the-variants as stops
 use Rattle.many.proofs.Slims.{said-more, said-finish, said-refuses}
-use Rattle.many.proofs.Runs.{readerOf, Behind, begun, ended, said-is, uses, stays-sound, ends, goes-on}
+use Rattle.many.proofs.Runs.{readerOf, Behind, begun, ended, said-is, uses, stays-sound, by-said, goes-on}
 
 pub record Going (run : Run) (room : ℕ) (w : List ℕ) (last : Bool) (rows₀ tens₀ : List ℤ) (s : Scalars) (m : Memory) (count used : ℕ)
     (rows₁ tens₁ : List ℤ) : Type 0
@@ -97,16 +97,16 @@ module _ {run : Run} {room : ℕ} {w : List ℕ} {last : Bool} {rows₀ tens₀ 
             → Tells run rows₀ tens₀ (record { stop = stops.More; count = count; used = used; reader = readerOf (o .scalars) m' }) rows₁ tens₁
         more a =
             ended stops.More _ 0 used _ refl (omega arith)
-            (rw (ends s m (drop used w) last (g .sound) o m' call left _ (said-more _ (said-is s m (drop used w) last (g .sound) o m' call ∙ ap saidIs a))) at next)
+            (rw (by-said s m (drop used w) last (g .sound) o m' call left _ (said-more _ (said-is s m (drop used w) last (g .sound) o m' call ∙ ap saidIs a))) at next)
 
         pub finish : (n : ℕ) → o .answer ≡ answers.Finish n
             → Tells run rows₀ tens₀ (record { stop = stops.Finish; count = count; used = used + n; reader = readerOf (o .scalars) m' }) rows₁ tens₁
         finish n a =
             ended stops.Finish _ n (used + n) _ refl refl
-            (rw (ends s m (drop used w) last (g .sound) o m' call left _ (said-finish _ n (said-is s m (drop used w) last (g .sound) o m' call ∙ ap saidIs a))) at next)
+            (rw (by-said s m (drop used w) last (g .sound) o m' call left _ (said-finish _ n (said-is s m (drop used w) last (g .sound) o m' call ∙ ap saidIs a))) at next)
 
         pub refused : (r : Refusal) → o .answer ≡ answers.Refused r
             → Tells run rows₀ tens₀ (record { stop = stops.Refused r; count = count; used = used; reader = readerOf (o .scalars) m' }) rows₁ tens₁
         refused r a =
             ended (stops.Refused r) _ 0 used _ refl (omega arith)
-            (rw (ends s m (drop used w) last (g .sound) o m' call left _ (said-refuses _ _ _ (said-is s m (drop used w) last (g .sound) o m' call ∙ ap saidIs a))) at next)
+            (rw (by-said s m (drop used w) last (g .sound) o m' call left _ (said-refuses _ _ _ (said-is s m (drop used w) last (g .sound) o m' call ∙ ap saidIs a))) at next)

@@ -4,8 +4,8 @@ use mathlib.Core.Path.{_≡_}
 use mathlib.Core.List.{List}
 use lib.ListN.{length}
 use lib.IntN.{ℤ}
-use Rattle.state.specs.State.{entriesWith}
 use Rattle.state.specs.Reading.{Event}
+use Rattle.state.specs.declared.Entries.{Entries}
 use Rattle.state.specs.declared.Scalars.{Scalars}
 use Rattle.state.specs.declared.Reader.{Reader}
 use Rattle.many.specs.Many.{eventRow, eventTens, put}
@@ -23,12 +23,15 @@ pub record EventPut (e : Event) (used pending : ℤ) (i : ℕ) (ten former rows�
   pub rows : rows₁ ≡ put rows₀ (8 * i) (eventRow e used pending)
   pub tens : tens₁ ≡ put tens₀ (20 * i) (eventTens e ten former)
 
-abbrev pub readerWith : Scalars → List ℕ → List ℤ → List ℤ → List ℕ → List ℤ → Reader
-readerWith s marks xs ys held inputs = record { scalars = s; entries = entriesWith marks xs ys held inputs }
+abbrev pub readerWith : Scalars → Entries → Reader
+readerWith s e = record { scalars = s; entries = e }
 
 abbrev pub rowsRead : Stop → ℕ → ℕ → Scalars → RowsRead
 rowsRead stop count used s = record { stop = stop; count = count; used = used; scalars = s }
 
-abbrev pub answerWith : RowsRead → List ℕ → List ℤ → List ℤ → List ℕ → List ℤ → ManyAnswer
-answerWith r marks xs ys held inputs =
-    record { stop = r .stop; count = r .count; used = r .used; reader = readerWith (r .scalars) marks xs ys held inputs }
+abbrev pub answerOf : RowsRead → Entries → ManyAnswer
+answerOf r e = record { stop = r .stop; count = r .count; used = r .used; reader = readerWith (r .scalars) e }
+
+-- no call was made
+abbrev pub unread : Stop → Reader → ManyAnswer
+unread stop r = record { stop = stop; count = 0; used = 0; reader = r }

@@ -1,17 +1,18 @@
 // Many reading calls in one: the events as rows of numbers in lent memory.
 ghost use mathlib.Core.Path.{_≡_};
+ghost use mathlib.Core.Bool.{true};
 ghost use mathlib.Core.List.{[], _∷_, _++_};
 ghost use Prim.Native.Nat.{_+_, _*_, _/_, _≤_, min};
 ghost use lib.ListN.{length};
 ghost use lib.IntN.{pos};
 ghost use Rattle.num.specs.Wrap.{wrap32};
 ghost use Rattle.item.specs.Contents.{itemOf};
-ghost use Rattle.state.specs.State.{memory, entriesWith};
+ghost use Rattle.state.specs.State.{memory, entriesWith, goodReader};
 ghost use Rattle.state.specs.Reading.{other, goodCall};
 ghost use Rattle.state.specs.Views.{eventIs, done, slimStep};
 ghost use Rattle.state.specs.Laws.{Sound};
 ghost use Rattle.many.specs.Many.{calls, flag, isPending, eventRow, put, room, Tells};
-ghost use Rattle.many.specs.Stores.{Room, EventPut, readerWith, rowsRead, answerWith};
+ghost use Rattle.many.specs.Stores.{Room, EventPut, readerWith, rowsRead, answerOf, unread};
 use item::Cid;
 use item::Item;
 use refusal::Refusal;
@@ -225,8 +226,8 @@ fn read_rows(
     tens: &mut [i32],
     room: usize,
 ) -> RowsRead
-    requires { ⌜ Sound (readerWith scalars (now marks) (now xs) (now ys) (now held) (now inputs)) × Room room (now rows) (now tens) ⌝ }
-    ensures { λ r. ⌜ Tells (calls room (readerWith scalars (now (marks .entry)) (now (xs .entry)) (now (ys .entry)) (now (held .entry)) (now (inputs .entry))) (now (w .entry)) last) (now (rows .entry)) (now (tens .entry)) (answerWith r (now (marks .exit)) (now (xs .exit)) (now (ys .exit)) (now (held .exit)) (now (inputs .exit))) (now (rows .exit)) (now (tens .exit)) ⌝ }
+    requires { ⌜ Sound (readerWith scalars (entriesWith (now marks) (now xs) (now ys) (now held) (now inputs))) × Room room (now rows) (now tens) ⌝ }
+    ensures { λ r. ⌜ Tells (calls room (readerWith scalars (entriesWith (now (marks .entry)) (now (xs .entry)) (now (ys .entry)) (now (held .entry)) (now (inputs .entry)))) (now (w .entry)) last) (now (rows .entry)) (now (tens .entry)) (answerOf r (entriesWith (now (marks .exit)) (now (xs .exit)) (now (ys .exit)) (now (held .exit)) (now (inputs .exit)))) (now (rows .exit)) (now (tens .exit)) ⌝ }
 {
     let mut s = scalars;
     let mut count: usize = 0;
@@ -272,36 +273,19 @@ fn read_rows(
     stopped(Stop::Full, count, used, s)
 }
 
-// Reads until there is no room for another event, the window runs out, the body finishes or a call is refused. Event i has its row of
-// eight numbers at 8 i of rows, and an input its ten numbers and the former ten at 20 i of tens. The state is tested once.
-pub fn read_many(
-    reader: Reader,
+// Calls on a good reader.
+fn read_good(
+    scalars: Scalars,
+    entries: Entries,
     window: &[u8],
     last: bool,
     rows: &mut [i32],
     tens: &mut [i32],
+    room: usize,
 ) -> ManyAnswer
-    ensures { λ r. ⌜ Tells (calls (room (now (rows .entry)) (now (tens .entry))) reader (now (window .entry)) last) (now (rows .entry)) (now (tens .entry)) r (now (rows .exit)) (now (tens .exit)) ⌝ }
+    requires { ⌜ (goodReader (readerWith scalars entries) ≡ true) × Room room (now rows) (now tens) ⌝ }
+    ensures { λ r. ⌜ Tells (calls room (readerWith scalars entries) (now (window .entry)) last) (now (rows .entry)) (now (tens .entry)) r (now (rows .exit)) (now (tens .exit)) ⌝ }
 {
-    let free = room_for(rows.len(), tens.len());
-    if free == 0 {
-        return ManyAnswer {
-            stop: Stop::Full,
-            count: 0,
-            used: 0,
-            reader,
-        };
-    }
-    let scalars = reader.scalars;
-    let entries = reader.entries;
-    if !good::both(good::good_scalars(scalars), good::good_entries(entries)) {
-        return ManyAnswer {
-            stop: Stop::Refused(Refusal::BadState),
-            count: 0,
-            used: 0,
-            reader,
-        };
-    }
     let mut marks = entries.marks;
     let mut xs = entries.xs;
     let mut ys = entries.ys;
@@ -322,23 +306,61 @@ pub fn read_many(
         last,
         rows,
         tens,
-        free,
+        room,
     );
+    let left = Entries {
+        marks,
+        xs,
+        ys,
+        held,
+        inputs,
+    };
+    answer_of(r, left)
+}
+
+fn answer_of(r: RowsRead, entries: Entries) -> ManyAnswer
+    ensures { λ a. ⌜ a ≡ answerOf r entries ⌝ }
+{
     let stop = r.stop;
-    let next = r.scalars;
+    let scalars = r.scalars;
     ManyAnswer {
         stop,
         count: r.count,
         used: r.used,
-        reader: Reader {
-            scalars: next,
-            entries: Entries {
-                marks,
-                xs,
-                ys,
-                held,
-                inputs,
-            },
-        },
+        reader: Reader { scalars, entries },
     }
+}
+
+fn unread(stop: Stop, reader: Reader) -> ManyAnswer
+    ensures { λ r. ⌜ r ≡ unread stop reader ⌝ }
+{
+    ManyAnswer {
+        stop,
+        count: 0,
+        used: 0,
+        reader,
+    }
+}
+
+// Reads until there is no room for another event, the window runs out, the body finishes or a call is refused. Event i has its row of
+// eight numbers at 8 i of rows, and an input its ten numbers and the former ten at 20 i of tens. The state is tested once.
+pub fn read_many(
+    reader: Reader,
+    window: &[u8],
+    last: bool,
+    rows: &mut [i32],
+    tens: &mut [i32],
+) -> ManyAnswer
+    ensures { λ r. ⌜ Tells (calls (room (now (rows .entry)) (now (tens .entry))) reader (now (window .entry)) last) (now (rows .entry)) (now (tens .entry)) r (now (rows .exit)) (now (tens .exit)) ⌝ }
+{
+    let free = room_for(rows.len(), tens.len());
+    if free == 0 {
+        return unread(Stop::Full, reader);
+    }
+    let scalars = reader.scalars;
+    let entries = reader.entries;
+    if !good::both(good::good_scalars(scalars), good::good_entries(entries)) {
+        return unread(Stop::Refused(Refusal::BadState), reader);
+    }
+    read_good(scalars, entries, window, last, rows, tens, free)
 }

@@ -1,5 +1,5 @@
 -- `many::good_call` meets its contract. Assumes nothing.
-use mathlib.Core.Path.{_≡_, ap, _∙_}
+use mathlib.Core.Path.{ap, _∙_}
 use Rattle.state.specs.Reading.{goodCall}
 use Rattle.state.specs.Views.{slimStep}
 use Rattle.state.proofs.Numbers.{picks-first, picks-second}

@@ -1,11 +1,11 @@
 -- `many::read_rows` meets its contract. Assumes nothing.
 use Prim.Native.Nat.{_-_}
-use mathlib.Core.Path.{_≡_, sym, _∙_}
+use mathlib.Core.Path.{_≡_}
 use native.Mathlib.Omega.{arith}
 use borrow.Author.Needs.{needs}
 use mir.Syntax.{w32}
 use mir.Val.{toZ, ofZ}
-use Rattle.state.specs.State.{memory}
+use Rattle.state.specs.State.{entriesWith, memory}
 use Rattle.many.specs.Many.{calls}
 use Rattle.many.specs.Stores.{readerWith}
 use Rattle.many.proofs.Turns.{Going, starts, full, fits, turn, more, finish, refused}
@@ -14,7 +14,7 @@ use Rattle.many.proofs.read_rows.Tie as tie
 
 abbrev Inv-loop : tie.InvT-loop
 Inv-loop marks₀ xs₀ ys₀ held₀ inputs₀ input₀ former₀ w last rows₀ tens₀ room s₀ count₀ used₀ marks xs ys held inputs input former rows tens s count used =
-    Going (calls room (readerWith s₀ marks₀ xs₀ ys₀ held₀ inputs₀) w last) room w last rows₀ tens₀ s
+    Going (calls room (readerWith s₀ (entriesWith marks₀ xs₀ ys₀ held₀ inputs₀)) w last) room w last rows₀ tens₀ s
     (memory marks xs ys held inputs input former) count used rows tens
 
 abbrev μ-loop : tie.MeasureT-loop
@@ -113,15 +113,15 @@ returns-4 c = rw (c .stopped4 .ensures) (full (c .before .before .loop .inv) (c 
 pub read-rows-spec : {M : Type 1} → statement M
 read-rows-spec =
     tie.close
-    (tie.spec Inv-loop μ-loop loop-holds (λ c κs. search needs) (λ c. search needs) (λ c. search needs) (λ c. search needs)
-    (λ c κs. search needs) (λ c. search needs) (λ c κs. search needs) put-event-requires add-used add-count loop-less loop-again
-    (λ c. search needs) (λ c κs. search needs)
+    (tie.spec Inv-loop μ-loop loop-holds (λ c κs. tt) (λ c. search needs) (λ c. search needs) (λ c. search needs)
+    (λ c κs. tt) (λ c. search needs) (λ c κs. tt) put-event-requires add-used add-count loop-less loop-again
+    (λ c. search needs) (λ c κs. tt)
     (λ c. c .before .before .before .before .before .before .before .before .before .before .before .before .before .before .before .loop .inv .rows)
     (λ c. c .before .before .before .before .before .before .before .before .before .before .before .before .before .before .before .loop .inv .tens)
-    returns (λ c. search needs) add-stopped (λ c κs. search needs)
+    returns (λ c. search needs) add-stopped (λ c κs. tt)
     (λ c. c .before .before .before .before .before .before .before .before .before .before .before .before .before .before .before .before .loop .inv .rows)
     (λ c. c .before .before .before .before .before .before .before .before .before .before .before .before .before .before .before .before .loop .inv .tens)
-    returns-2 (λ c. search needs) (λ c κs. search needs)
+    returns-2 (λ c. search needs) (λ c κs. tt)
     (λ c. c .before .before .before .before .before .before .before .before .before .before .before .before .before .before .before .before .loop .inv .rows)
     (λ c. c .before .before .before .before .before .before .before .before .before .before .before .before .before .before .before .before .loop .inv .tens)
-    returns-3 (λ c κs. search needs) (λ c. c .before .before .loop .inv .rows) (λ c. c .before .before .loop .inv .tens) returns-4)
+    returns-3 (λ c κs. tt) (λ c. c .before .before .loop .inv .rows) (λ c. c .before .before .loop .inv .tens) returns-4)
