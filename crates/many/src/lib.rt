@@ -7,9 +7,9 @@ ghost use lib.ListN.{length};
 ghost use lib.IntN.{pos};
 ghost use Rattle.num.specs.Wrap.{wrap32};
 ghost use Rattle.item.specs.Contents.{itemOf};
-ghost use Rattle.state.specs.State.{memory, entriesWith, goodReader};
-ghost use Rattle.state.specs.Reading.{other, goodCall};
-ghost use Rattle.state.specs.Views.{eventIs, done, slimStep};
+ghost use Rattle.state.specs.State.{entriesWith, goodReader};
+ghost use Rattle.state.specs.Reading.{other};
+ghost use Rattle.state.specs.Views.{eventIs};
 ghost use Rattle.state.specs.Laws.{Sound};
 ghost use Rattle.many.specs.Many.{calls, flag, isPending, eventRow, put, room, Tells};
 ghost use Rattle.many.specs.Stores.{Room, EventPut, readerWith, rowsRead, answerOf, unread};
@@ -19,7 +19,6 @@ use refusal::Refusal;
 use state::Answer;
 use state::Entries;
 use state::Event;
-use state::Outcome;
 use state::Pending;
 use state::Reader;
 use state::Scalars;
@@ -183,33 +182,6 @@ fn put_event(
     }
 }
 
-// A call on a good reader.
-fn good_call(
-    s: Scalars,
-    marks: &mut [u8; 128],
-    xs: &mut [i32; 128],
-    ys: &mut [i32; 128],
-    held: &mut [u8; 128],
-    inputs: &mut [i32; 1280],
-    input: &mut [i32; 10],
-    former: &mut [i32; 10],
-    w: &[u8],
-    last: bool,
-) -> Outcome
-    ensures { λ r. ⌜
-        done r (memory (now (marks .exit)) (now (xs .exit)) (now (ys .exit)) (now (held .exit)) (now (inputs .exit)) (now (input .exit)) (now (former .exit)))
-        ≡ slimStep (goodCall s (memory (now (marks .entry)) (now (xs .entry)) (now (ys .entry)) (now (held .entry)) (now (inputs .entry)) (now (input .entry)) (now (former .entry))) (now (w .entry)) last)
-        ⌝ }
-{
-    if s.closed {
-        return Outcome {
-            answer: Answer::Refused(Refusal::Closed),
-            scalars: s,
-        };
-    }
-    step::open_call(s, marks, xs, ys, held, inputs, input, former, w, last)
-}
-
 // Calls on lent entries while there is room and they give events. What input and former hold before is never seen.
 fn read_rows(
     scalars: Scalars,
@@ -235,7 +207,7 @@ fn read_rows(
     while count < room {
         let pending = s.pending;
         let had = pending_flag(pending);
-        let o = good_call(
+        let o = step::good_call(
             s,
             &mut *marks,
             &mut *xs,
