@@ -92,7 +92,7 @@ record-row (other r) n p ten u = ap (recordLine (tagNumber (r .tag))) (told-back
 
 -- ---- where there is room, a line is put
 
-puts-of : (most : ℕ) (xs : List ℕ) (at : ℕ) (line : List ℕ) (next : ℕ) (ys : List ℕ) → at + most ≤ length xs
+pub puts-of : (most : ℕ) (xs : List ℕ) (at : ℕ) (line : List ℕ) (next : ℕ) (ys : List ℕ) → at + most ≤ length xs
     → (next ≡ pastOr (textAnswer most xs at line) at) × (ys ≡ textTarget most xs at line) → Puts xs at line next ys
 puts-of most xs at line next ys h p = let t = le-leb (at + most) (length xs) h in rw t at p
 

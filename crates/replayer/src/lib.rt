@@ -1,9 +1,11 @@
 // The replay program's work: reading calls on the bytes at hand, and the lines of their events.
 ghost use mathlib.Core.Path.{_≡_};
-ghost use Prim.Native.Nat.{_+_, _*_, _-_, _≤_};
+ghost use Prim.Native.Nat.{_+_, _*_, _-_, _/_, _≤_, min};
 ghost use lib.ListN.{length, take, drop};
 ghost use Rattle.lines.specs.Lines.{
   inputWord,
+  longest,
+  Puts,
   plainLine,
   plainMost,
   textAnswer,
@@ -11,13 +13,21 @@ ghost use Rattle.lines.specs.Lines.{
   lineAnswer,
   lineTarget,
 };
+ghost use Rattle.many.specs.Many.{haltOf};
+ghost use Rattle.replayer.specs.Replay.{endingOf, ends, turnRoom, turnRun, Turns};
 ghost use Rattle.replayer.specs.Rows.{pastOr, cidTold, clientAnd, recordTold, PutsLine, PutsLines};
 use item::Cid;
+use lines::Ending;
+use many::Stop;
 use state::Reader;
 use varint::Wrote;
 
+const FULL: usize = 65536;
+
+const LONGEST: usize = 138;
+
 // What a turn leaves: the reader, the bytes used, the bytes of text, and whether the text ends with the last line.
-pub struct Turn {
+pub struct Turned {
     pub reader: Reader,
     pub used: usize,
     pub filled: usize,
@@ -113,4 +123,103 @@ fn put_rows(rows: &[i32], tens: &[i32], count: usize, out: &mut [u8]) -> usize
         i += 1;
     }
     at
+}
+
+// The last line, if there is one: the place past it.
+fn put_ending(stop: Stop, count: usize, out: &mut [u8], at: usize) -> usize
+    requires { ⌜ at + longest ≤ length (now out) ⌝ }
+    ensures { λ r. ⌜ Puts (now (out .entry)) at (endingOf (haltOf stop) count) r (now (out .exit)) ⌝ }
+{
+    match stop {
+        Stop::Full => at,
+        Stop::More => {
+            if count == 0 {
+                return past(lines::write_last(Ending::TooLong, out, at), at);
+            }
+            at
+        }
+        Stop::Finish => past(lines::write_last(Ending::Finish, out, at), at),
+        Stop::Refused(refusal) => past(lines::write_last(Ending::Refused(refusal), out, at), at),
+    }
+}
+
+// Whether there is one.
+fn has_ending(stop: Stop, count: usize) -> bool
+    ensures { λ r. ⌜ r ≡ ends (haltOf stop) count ⌝ }
+{
+    match stop {
+        Stop::Full => false,
+        Stop::More => count == 0,
+        Stop::Finish => true,
+        Stop::Refused(_) => true,
+    }
+}
+
+fn least(a: usize, b: usize) -> usize
+    ensures { λ r. ⌜ r ≡ min a b ⌝ }
+{
+    if a < b {
+        return a;
+    }
+    b
+}
+
+// For how many lines there is room, besides a last one.
+fn line_room(out: usize) -> usize
+    ensures { λ r. ⌜ r ≡ (out - longest) / longest ⌝ }
+{
+    if out < LONGEST {
+        return 0;
+    }
+    (out - LONGEST) / LONGEST
+}
+
+// For how many events there is room.
+fn event_room(rows: usize, tens: usize, out: usize) -> usize
+    ensures { λ r. ⌜ r ≡ min (min (rows / 8) (tens / 20)) ((out - longest) / longest) ⌝ }
+{
+    least(least(rows / 8, tens / 20), line_room(out))
+}
+
+// Many reading calls on the window at the front of the bytes, as many as there is room for, and their lines into the target. The bytes
+// are all that are at hand from the reader's place on: fewer than a full window only where no more come.
+pub fn turn(
+    reader: Reader,
+    bytes: &[u8],
+    rows: &mut [i32],
+    tens: &mut [i32],
+    out: &mut [u8],
+) -> Turned
+    ensures { λ r. ⌜ Turns (turnRun (turnRoom (now (rows .entry)) (now (tens .entry)) (now (out .entry))) reader (now (bytes .entry))) (now (rows .entry)) (now (tens .entry)) (now (out .entry)) r (now (rows .exit)) (now (tens .exit)) (now (out .exit)) ⌝ }
+{
+    let n = event_room(rows.len(), tens.len(), out.len());
+    if n == 0 {
+        return Turned {
+            reader,
+            used: 0,
+            filled: 0,
+            ended: false,
+        };
+    }
+    let end = least(bytes.len(), FULL);
+    let last = bytes.len() < FULL;
+    let row_end = 8 * n;
+    let ten_end = 20 * n;
+    let many = many::read_many(
+        reader,
+        &bytes[..end],
+        last,
+        &mut rows[..row_end],
+        &mut tens[..ten_end],
+    );
+    let stop = many.stop;
+    let count = many.count;
+    let left = many.reader;
+    let at = put_rows(rows, tens, count, out);
+    Turned {
+        reader: left,
+        used: many.used,
+        filled: put_ending(stop, count, out, at),
+        ended: has_ending(stop, count),
+    }
 }
