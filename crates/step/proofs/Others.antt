@@ -14,7 +14,7 @@ use Rattle.fields.specs.Fields.{Value, num, bytes, strings, Reading, got, runsO
 use Rattle.item.specs.Said.{gives}
 use Rattle.item.specs.Extensions.{Payload, shaped, whole, unknown, Extension, extensions, noExtension, payloadAt, hasClient, find}
 use Rattle.item.specs.Records.{Content, content, Rest, fields, extension, restOf, readAs, asContent, upTo, ofPayload, afterData, afterId, readEx, readRest}
-use Rattle.item.specs.Contents.{firstNumber, tagCid, cidOf, ownPayload, ownFields}
+use Rattle.item.specs.Contents.{firstNumber, kindCid, tagCid, cidOf, ownPayload, ownFields}
 use Rattle.item.specs.declared.Kind.{Kind}
 use Rattle.item.specs.declared.Kind.the-variants as kinds
 use Rattle.item.specs.declared.Tag.{Tag}
@@ -134,12 +134,28 @@ first-named : (k : ℕ) → First (length (ownPayload (payloadAt k)))
 unfolding payloadAt extensions
 first-named k = first-payload (payloadAt k) (full-at extensions k refl)
 
-cid-tag : (t : Tag) (vs : List (Value Part)) → otherTag t ≡ true → tagCid t (firstNumber (take (length (ownFields t)) vs)) ≡ tagCid t (firstNumber vs)
-cid-tag (Plain k) vs o =
-    by-other (λ k. tagCid (Plain k) (firstNumber (take (length (ownFields (Plain k))) vs)) ≡ tagCid (Plain k) (firstNumber vs))
-    (ap Of (first-more 1 vs)) (ap Of (first-more 0 vs)) (ap Of (first-more 1 vs)) (ap Of (first-more 2 vs)) refl k o
-cid-tag (Named k) vs o = ap (λ (z : ℤ). cond (hasClient k) (Of z) NoCid) (first-named k vs)
-cid-tag Other vs o = refl
+cid-kind : (k : Kind) (vs : List (Value Part)) → kindCid k (firstNumber (take (length (ownFields (Plain k))) vs)) ≡ kindCid k (firstNumber vs)
+cid-kind (kinds.PlayerDiff c) vs = refl
+cid-kind kinds.Finish vs = refl
+cid-kind kinds.TickSkip vs = refl
+cid-kind (kinds.PlayerNew c) vs = refl
+cid-kind (kinds.PlayerOld c) vs = refl
+cid-kind kinds.InputDiff vs = ap Of (first-more 0 vs)
+cid-kind kinds.InputNew vs = ap Of (first-more 0 vs)
+cid-kind kinds.Message vs = ap Of (first-more 1 vs)
+cid-kind kinds.Join vs = ap Of (first-more 0 vs)
+cid-kind kinds.Drop vs = ap Of (first-more 1 vs)
+cid-kind kinds.ConsoleCommand vs = ap Of (first-more 2 vs)
+cid-kind kinds.Ex vs = refl
+
+cid-tag : (t : Tag) (vs : List (Value Part)) → tagCid t (firstNumber (take (length (ownFields t)) vs)) ≡ tagCid t (firstNumber vs)
+cid-tag (Plain k) vs = cid-kind k vs
+cid-tag (Named k) vs = ap (λ (z : ℤ). cond (hasClient k) (Of z) NoCid) (first-named k vs)
+cid-tag Other vs = refl
+
+-- a record has its client also without what stands beside it
+pub cid-own : (c : Content Part) → cidOf (ownContent c) ≡ cidOf c
+cid-own c = cid-tag (c .tag) (c .values)
 
 -- ---- what such a record changes
 
@@ -153,7 +169,7 @@ module _ (s : Scalars) (m : Memory) where
       → step (gives (other (ownContent c)) n) (raising (cidOf (ownContent c)) s) m ≡ slimStep (apply s m c n)
   unfolding apply otherRecord
   apply-other c n o =
-      ap (λ (i : Cid). step (gives (other (ownContent c)) n) (raising i s) m) (cid-tag (c .tag) (c .values) o)
+      ap (λ (i : Cid). step (gives (other (ownContent c)) n) (raising i s) m) (cid-own c)
       ∙ ap slimStep (sym (apply-tag (c .tag) c n o))
 
   module _ (last : Bool) where

@@ -1,0 +1,4 @@
+pub mod Puts
+pub mod Frame
+pub mod Slims
+pub mod Runs

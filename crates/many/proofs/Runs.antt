@@ -1,0 +1,126 @@
+-- Calls one behind the other: what is done and what is left. Assumes nothing.
+use Prim.Native.Nat.{ℕ, zero, suc, _+_, _*_, _-_, _≤_, _<_, zero-le}
+use mathlib.Core.Path.{_≡_, refl, sym, ap, subst, _∙_}
+use mathlib.Core.Bool.{Bool, true, false, cond}
+use mathlib.Core.List.{List, [], _∷_}
+use native.Mathlib.Omega.{arith}
+use native.Mathlib.Numerals.{add-one}
+use lib.ListN.{length, take, drop, length-drop}
+use lib.Seq.{take-all, drop-drop}
+use lib.IntN.{ℤ, pos}
+use Rattle.refusal.specs.declared.Refusal.{Refusal}
+use Rattle.refusal.specs.declared.Refusal.the-variants.{BadState}
+use Rattle.num.specs.Wrap.{wrap32}
+use Rattle.item.specs.Said.{Said, gives, more, finish, refuses, refusing}
+use Rattle.state.specs.State.{Memory, goodReader}
+use Rattle.state.specs.Reading.{Event, Step, step, openCall, goodCall, memoryOf, readCall, readerAfter}
+use Rattle.state.specs.Views.{eventIs, saidIs, done, slim, slimSaid, slimStep}
+use Rattle.state.specs.Laws.{usedIn, Sound}
+use Rattle.state.specs.declared.Scalars.{Scalars}
+use Rattle.state.specs.declared.Reader.{Reader}
+use Rattle.state.specs.declared.Event as code
+use Rattle.state.specs.declared.Answer.{Answer}
+use Rattle.state.specs.declared.Answer.the-variants as answers
+use Rattle.state.specs.declared.Outcome.{Outcome}
+use Rattle.state.proofs.Every.{by-cond}
+use Rattle.state.proofs.Numbers.{picks-first, picks-second}
+use Rattle.state.proofs.Theorems.{open-call-keeps, readers-stay-sound}
+use Rattle.many.specs.Many.{
+  Seen,
+  Halt,
+  isFull,
+  wantsMore,
+  finishes,
+  isRefused,
+  Run,
+  isPending,
+  seenBy,
+  stopped,
+  before,
+  onSaid,
+  calls,
+  flag,
+  eventRow,
+  rowOf,
+  eventTens,
+  tensOf,
+  put,
+  rowsFrom,
+  tensFrom,
+  haltOf,
+  Tells,
+}
+use Rattle.many.specs.declared.Stop.{Stop}
+use Rattle.many.specs.declared.Stop.the-variants as stops
+use Rattle.many.specs.declared.ManyAnswer.{ManyAnswer}
+use Rattle.many.proofs.Frame.{saidTens, Alike, good-alike}
+use Rattle.many.proofs.Slims.{slim-row, slim-tens, Gave, gave, said-more, said-finish, said-refuses}
+
+-- ---- a run of which count events with used bytes are done, and rest is left
+
+pub record Behind (run rest : Run) (count used : ℕ) (rows₀ tens₀ rows₁ tens₁ : List ℤ) : Type 0 where
+  pub halt : run .halt ≡ rest .halt
+  pub events : length (run .seen) ≡ count + length (rest .seen)
+  pub bytes : run .used ≡ used + rest .used
+  pub reader : run .reader ≡ rest .reader
+  pub rows : rowsFrom 0 (run .seen) rows₀ ≡ rowsFrom count (rest .seen) rows₁
+  pub tens : tensFrom 0 (run .seen) tens₀ ≡ tensFrom count (rest .seen) tens₁
+
+pub begun : (run : Run) (rows tens : List ℤ) → Behind run run 0 0 rows tens rows tens
+begun run rows tens = record { halt = refl; events = omega arith; bytes = omega arith; reader = refl; rows = refl; tens = refl }
+
+module _ {run : Run} {count used : ℕ} {rows₀ tens₀ rows₁ tens₁ : List ℤ} where
+  pub one-more : (x : Seen) (rest : Run) → Behind run (before x rest) count used rows₀ tens₀ rows₁ tens₁
+      → Behind run rest (count + 1) (used + x .used) rows₀ tens₀ (put rows₁ (8 * count) (rowOf x)) (put tens₁ (20 * count) (tensOf x))
+  unfolding rowsFrom tensFrom
+  one-more x rest b =
+      record {
+        halt = b .halt;
+        events = omega (arith, b .events);
+        bytes = omega (arith, b .bytes);
+        reader = b .reader;
+        rows = rw add-one (b .rows);
+        tens = rw add-one (b .tens);
+      }
+
+  pub ended : (stop : Stop) (h : Halt) (n u : ℕ) (r : Reader) → haltOf stop ≡ h → u ≡ used + n
+      → Behind run (stopped h n r) count used rows₀ tens₀ rows₁ tens₁
+      → Tells run rows₀ tens₀ (record { stop = stop; count = count; used = u; reader = r }) rows₁ tens₁
+  unfolding rowsFrom tensFrom
+  ended stop h n u r e f b =
+      record {
+        halt = e ∙ sym (b .halt);
+        count = omega (arith, b .events);
+        used = f ∙ sym (b .bytes);
+        left = sym (b .reader);
+        rows = sym (b .rows);
+        tens = sym (b .tens);
+      }
+
+-- ---- one call on a sound reader, with the ten numbers and the former ten that the last input left
+
+abbrev pub readerOf : Scalars → Memory → Reader
+readerOf s m = record { scalars = s; entries = m .entries }
+
+module _ (s : Scalars) (m : Memory) (w : List ℕ) (last : Bool) (sound : Sound (readerOf s m)) where
+  call-alike : Alike (goodCall s m w last) (readCall (readerOf s m) w last)
+  unfolding readCall
+  call-alike =
+      subst (Alike (goodCall s m w last)) (picks-first (goodReader (readerOf s m)) _ _ (sound .good))
+      (good-alike (m .entries) (m .input) (m .former) _ _ s w last)
+
+  uses : usedIn (goodCall s m w last .said) ≤ length w
+  unfolding goodCall
+  uses =
+      by-cond (λ (t : Step). usedIn (t .said) ≤ length w) (s .closed) (λ _. zero-le) (λ _. open-call-keeps s m w last .within)
+
+  module _ (o : Outcome) (m' : Memory) (e : done o m' ≡ slimStep (goodCall s m w last)) where
+    left-is : readerOf (o .scalars) m' ≡ readerAfter (readCall (readerOf s m) w last)
+    left-is =
+        ap readerAfter e ∙ (λ i. record { scalars = call-alike .scalars i; entries = call-alike .entries i })
+
+    pub stays-sound : Sound (readerOf (o .scalars) m')
+    stays-sound = rw left-is (readers-stay-sound (readerOf s m) w last sound)
+
+    said-is : slimSaid (readCall (readerOf s m) w last .said) ≡ saidIs (o .answer)
+    said-is = sym (ap (λ (t : Step). t .said) e ∙ ap slimSaid (call-alike .said))
