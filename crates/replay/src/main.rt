@@ -1,5 +1,6 @@
 // The replay program: standard input is a version byte, 01 or 02, and a body; a line is printed for each event, and a last line.
-ghost use Prim.Native.Nat.{_≤_};
+ghost use mathlib.Core.Path.{_≡_};
+ghost use Prim.Native.Nat.{_-_, _≤_, _<_};
 ghost use lib.ListN.{length};
 use item::Version;
 use item::VersionOf;
@@ -22,39 +23,48 @@ struct Hand {
     failed: bool,
 }
 
+// What a turn leaves to the next, and whether there is a next.
+struct Left {
+    reader: Reader,
+    hand: Hand,
+    goes: bool,
+}
+
+fn failed() -> Hand {
+    Hand {
+        at: 0,
+        end: 0,
+        open: false,
+        failed: true,
+    }
+}
+
+fn bytes_to(end: usize, open: bool) -> Hand {
+    Hand {
+        at: 0,
+        end,
+        open,
+        failed: false,
+    }
+}
+
 // Reads until the buffer is full, the input ends or a read fails.
 fn fill(buf: &mut [u8], from: usize) -> Hand
     requires { ⌜ from ≤ length (now buf) ⌝ }
-    ensures { λ r. ⌜ r .end ≤ length (now (buf .entry)) ⌝ }
 {
     let mut end = from;
     while end < buf.len() {
         let got = libc::read(STDIN_FILENO, &mut buf[end..]);
         if got < 0 {
-            return Hand {
-                at: 0,
-                end,
-                open: false,
-                failed: true,
-            };
+            return failed();
         }
         let more = io::count(got, &buf[end..]);
         if more == 0 {
-            return Hand {
-                at: 0,
-                end,
-                open: false,
-                failed: false,
-            };
+            return bytes_to(end, false);
         }
         end += more;
     }
-    Hand {
-        at: 0,
-        end,
-        open: true,
-        failed: false,
-    }
+    bytes_to(end, true)
 }
 
 // Moves the bytes from a place to an end to the front of the buffer: how many they are.
@@ -72,14 +82,17 @@ fn shift(buf: &mut [u8], at: usize, end: usize) -> usize
 }
 
 // A full window at least, unless the input has ended.
-fn at_hand(buf: &mut [u8], hand: Hand) -> Hand
-    requires { ⌜ (hand .at ≤ hand .end) × (hand .end ≤ length (now buf)) ⌝ }
-    ensures { λ r. ⌜ (r .at ≤ r .end) × (r .end ≤ length (now (buf .entry))) ⌝ }
-{
+fn at_hand(buf: &mut [u8], hand: Hand) -> Hand {
     let at = hand.at;
     let end = hand.end;
     if !hand.open {
         return hand;
+    }
+    if end < at {
+        return failed();
+    }
+    if buf.len() < end {
+        return failed();
     }
     if FULL <= end - at {
         return hand;
@@ -94,54 +107,86 @@ fn print(text: &[u8], n: usize) -> bool {
     io::write_all(STDOUT_FILENO, packer::show(text, start))
 }
 
-// A turn on the bytes at hand, with its text printed: whether another turn follows.
-fn print_turn(text: &[u8], filled: usize, ended: bool) -> bool {
+fn print_failed() {
+    io::write_all(STDERR_FILENO, b"replay: a read failed\n");
+}
+
+// Whether another turn follows one whose text is printed.
+fn goes_on(text: &[u8], filled: usize, ended: bool) -> bool {
     if print(text, filled) {
         return !ended;
     }
     false
 }
 
-// Turns until one ends the replay. Each gives an event or a last line, so their number is only there to bound them.
-fn replay(
-    version: Version,
-    buf: &mut [u8],
-    first: Hand,
-    rows: &mut [i32],
-    tens: &mut [i32],
-    out: &mut [u8],
-)
-    requires { ⌜ (first .at ≤ first .end) × (first .end ≤ length (now buf)) ⌝ }
+fn difference(a: usize, b: usize) -> usize
+    ensures { λ r. ⌜ r ≡ a - b ⌝ }
 {
-    let mut reader = Reader::empty(version);
-    let mut hand = first;
+    if a < b {
+        return 0;
+    }
+    a - b
+}
+
+// At most the end.
+fn place(at: usize, used: usize, end: usize) -> usize {
+    if used < difference(end, at) {
+        return at + used;
+    }
+    end
+}
+
+// A turn on the bytes at hand, and its text.
+fn one_turn(left: Left, buf: &mut [u8], rows: &mut [i32], tens: &mut [i32], out: &mut [u8]) -> Left {
+    let reader = left.reader;
+    let before = left.hand;
+    let hand = at_hand(buf, before);
+    if hand.failed {
+        print_failed();
+        return Left {
+            reader,
+            hand,
+            goes: false,
+        };
+    }
+    let at = hand.at;
+    let end = hand.end;
+    let bytes = Part {
+        at,
+        len: difference(end, at),
+    };
+    let turned = replayer::turn(reader, packer::show(buf, bytes), rows, tens, out);
+    let next = turned.reader;
+    Left {
+        reader: next,
+        hand: Hand {
+            at: place(at, turned.used, end),
+            end,
+            open: hand.open,
+            failed: false,
+        },
+        goes: goes_on(out, turned.filled, turned.ended),
+    }
+}
+
+// The turns that may follow.
+fn fewer(turns: u64, goes: bool) -> u64
+    requires { ⌜ 0 < turns ⌝ }
+    ensures { λ r. ⌜ r < turns ⌝ }
+{
+    if goes {
+        return turns - 1;
+    }
+    0
+}
+
+// Turns until one is the last. Each gives an event or the last line; their number is there to bound them.
+fn replay(first: Left, buf: &mut [u8], rows: &mut [i32], tens: &mut [i32], out: &mut [u8]) {
+    let mut left = first;
     let mut turns: u64 = 18446744073709551615;
     while 0 < turns {
-        turns -= 1;
-        let now = at_hand(buf, hand);
-        if now.failed {
-            io::write_all(STDERR_FILENO, b"replay: a read failed\n");
-            return;
-        }
-        let at = now.at;
-        let end = now.end;
-        let bytes = Part { at, len: end - at };
-        let turned = replayer::turn(reader, packer::show(buf, bytes), rows, tens, out);
-        if !print_turn(out, turned.filled, turned.ended) {
-            return;
-        }
-        let used = turned.used;
-        if end - at < used {
-            return;
-        }
-        hand = Hand {
-            at: at + used,
-            end,
-            open: now.open,
-            failed: false,
-        };
-        let next = turned.reader;
-        reader = next;
+        left = one_turn(left, buf, rows, tens, out);
+        turns = fewer(turns, left.goes);
     }
 }
 
@@ -157,11 +202,25 @@ fn number(b: u8) -> i32 {
     b as i32
 }
 
+// The first turn of a body behind a version byte.
+fn first_turn(version: Version, end: usize, open: bool) -> Left {
+    Left {
+        reader: Reader::empty(version),
+        hand: Hand {
+            at: 1,
+            end,
+            open,
+            failed: false,
+        },
+        goes: true,
+    }
+}
+
 // The whole of the input.
 fn run(buf: &mut [u8], rows: &mut [i32], tens: &mut [i32], out: &mut [u8]) {
     let hand = fill(buf, 0);
     if hand.failed {
-        io::write_all(STDERR_FILENO, b"replay: a read failed\n");
+        print_failed();
         return;
     }
     let end = hand.end;
@@ -169,24 +228,46 @@ fn run(buf: &mut [u8], rows: &mut [i32], tens: &mut [i32], out: &mut [u8]) {
         refuse(Refusal::UnknownVersion);
         return;
     }
+    if buf.len() == 0 {
+        return;
+    }
     match item::version_of(number(buf[0])) {
         VersionOf::Is(version) => {
-            let body = Hand {
-                at: 1,
-                end,
-                open: hand.open,
-                failed: false,
-            };
-            replay(version, buf, body, rows, tens, out)
+            replay(first_turn(version, end, hand.open), buf, rows, tens, out)
         }
         VersionOf::Refused(r) => refuse(r),
     }
 }
 
+// The arrays that main lends.
+fn buffer() -> [u8; 262144]
+    ensures { λ r. ⌜ 262144 ≡ length r ⌝ }
+{
+    [0; 262144]
+}
+
+fn row_space() -> [i32; 8192]
+    ensures { λ r. ⌜ 8192 ≡ length r ⌝ }
+{
+    [0; 8192]
+}
+
+fn ten_space() -> [i32; 20480]
+    ensures { λ r. ⌜ 20480 ≡ length r ⌝ }
+{
+    [0; 20480]
+}
+
+fn text_space() -> [u8; 141588]
+    ensures { λ r. ⌜ 141588 ≡ length r ⌝ }
+{
+    [0; 141588]
+}
+
 fn main() {
-    let mut buf = [0u8; 1048576];
-    let mut rows = [0i32; 8192];
-    let mut tens = [0i32; 20480];
-    let mut out = [0u8; 141588];
+    let mut buf = buffer();
+    let mut rows = row_space();
+    let mut tens = ten_space();
+    let mut out = text_space();
     run(&mut buf, &mut rows, &mut tens, &mut out);
 }
