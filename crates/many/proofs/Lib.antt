@@ -2,3 +2,5 @@ pub mod Puts
 pub mod Frame
 pub mod Slims
 pub mod Runs
+pub mod Turns
+pub mod Edges

@@ -52,7 +52,7 @@ put-put l at n xs ys e h =
     let size : length p ≡ at + n = length-append (take at l) xs ∙ (simp length-take (omega arith)) in
     let all : put l at xs ≡ p ++ q = sym (apart l at n xs e) in
     let rest : drop (at + n + length ys) (p ++ q) ≡ drop (at + n + length ys) l =
-        sym (drop-drop (length ys) (at + n) (p ++ q)) ∙ ap (drop (length ys)) (drop-at p q (at + n) size) ∙ drop-drop (length ys) (at + n) l in
+    sym (drop-drop (length ys) (at + n) (p ++ q)) ∙ ap (drop (length ys)) (drop-at p q (at + n) size) ∙ drop-drop (length ys) (at + n) l in
     let sum : at + n + length ys ≡ at + length (xs ++ ys) = omega (arith, length-append xs ys) in
     ap (λ (z : List ℤ). take (at + n) z ++ (ys ++ drop (at + n + length ys) z)) all
     ∙ (λ i. take-at p q (at + n) size i ++ (ys ++ rest i))

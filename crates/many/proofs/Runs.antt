@@ -50,11 +50,12 @@ use Rattle.many.specs.Many.{
   haltOf,
   Tells,
 }
+use Rattle.many.specs.Stores.{Room, EventPut}
 use Rattle.many.specs.declared.Stop.{Stop}
 use Rattle.many.specs.declared.Stop.the-variants as stops
 use Rattle.many.specs.declared.ManyAnswer.{ManyAnswer}
 use Rattle.many.proofs.Frame.{saidTens, Alike, good-alike}
-use Rattle.many.proofs.Slims.{slim-row, slim-tens, Gave, gave, said-more, said-finish, said-refuses}
+use Rattle.many.proofs.Slims.{slim-row, slim-tens, slim-used, Gave, gave, said-more, said-finish, said-refuses}
 
 -- ---- a run of which count events with used bytes are done, and rest is left
 
@@ -109,9 +110,9 @@ module _ (s : Scalars) (m : Memory) (w : List ℕ) (last : Bool) (sound : Sound 
       subst (Alike (goodCall s m w last)) (picks-first (goodReader (readerOf s m)) _ _ (sound .good))
       (good-alike (m .entries) (m .input) (m .former) _ _ s w last)
 
-  uses : usedIn (goodCall s m w last .said) ≤ length w
+  call-uses : usedIn (goodCall s m w last .said) ≤ length w
   unfolding goodCall
-  uses =
+  call-uses =
       by-cond (λ (t : Step). usedIn (t .said) ≤ length w) (s .closed) (λ _. zero-le) (λ _. open-call-keeps s m w last .within)
 
   module _ (o : Outcome) (m' : Memory) (e : done o m' ≡ slimStep (goodCall s m w last)) where
@@ -122,5 +123,49 @@ module _ (s : Scalars) (m : Memory) (w : List ℕ) (last : Bool) (sound : Sound 
     pub stays-sound : Sound (readerOf (o .scalars) m')
     stays-sound = rw left-is (readers-stay-sound (readerOf s m) w last sound)
 
-    said-is : slimSaid (readCall (readerOf s m) w last .said) ≡ saidIs (o .answer)
+    pub said-is : slimSaid (readCall (readerOf s m) w last .said) ≡ saidIs (o .answer)
     said-is = sym (ap (λ (t : Step). t .said) e ∙ ap slimSaid (call-alike .said))
+
+    pub uses : usedIn (saidIs (o .answer)) ≤ length w
+    uses = rw (ap (λ (t : Step). usedIn (t .said)) e ∙ slim-used (goodCall s m w last .said)) call-uses
+
+    -- by what the call says
+    pub ends : (k : ℕ) (x : Said Event) → readCall (readerOf s m) w last .said ≡ x → calls (suc k) (readerOf s m) w last
+        ≡ onSaid x (λ d n. before (seenBy (readerOf s m) (readCall (readerOf s m) w last) d n) (calls k (readerOf (o .scalars) m') (drop n w) last))
+        (readerOf (o .scalars) m')
+    unfolding calls
+    ends k x h =
+        λ i. onSaid (h i)
+        (λ d n. before (seenBy (readerOf s m) (readCall (readerOf s m) w last) d n) (calls k (sym left-is i) (drop n w) last))
+        (sym left-is i)
+
+    module _ (v : code.Event) (n : ℕ) (a : o .answer ≡ answers.Event v n) where
+      given : Gave (readCall (readerOf s m) w last .said) (eventIs v) n
+      given = gave _ (eventIs v) n (said-is ∙ ap saidIs a)
+
+      abbrev seen : Seen
+      seen = seenBy (readerOf s m) (readCall (readerOf s m) w last) (given .event) n
+
+      row-is : rowOf seen ≡ eventRow (eventIs v) (wrap32 (pos n)) (flag (isPending (s .pending)))
+      unfolding rowOf
+      row-is =
+          sym (slim-row (given .event) _ _)
+          ∙ ap (λ (d : Event). eventRow d (wrap32 (pos n)) (flag (isPending (s .pending)))) (given .own)
+
+      tens-are : tensOf seen ≡ eventTens (eventIs v) (m' .input) (m' .former)
+      unfolding tensOf
+      tens-are =
+          let t = readCall (readerOf s m) w last in
+          let g = goodCall s m w last in
+          ap (λ (x : Said Event). saidTens x (t .memory)) (sym (given .said))
+          ∙ sym (call-alike .tens)
+          ∙ (λ i. saidTens ((call-alike .said ∙ given .said) i) (sym (ap (λ (u : Step). u .memory) e) i))
+          ∙ sym (slim-tens (given .event) (m' .input) (m' .former))
+          ∙ ap (λ (d : Event). eventTens d (m' .input) (m' .former)) (given .own)
+
+      pub goes-on : {run : Run} {count used : ℕ} {rows₀ tens₀ rows₁ tens₁ : List ℤ} (k : ℕ) (rows₂ tens₂ : List ℤ)
+          → Behind run (calls (suc k) (readerOf s m) w last) count used rows₀ tens₀ rows₁ tens₁
+          → EventPut (eventIs v) (wrap32 (pos n)) (flag (isPending (s .pending))) count (m' .input) (m' .former) rows₁ tens₁ rows₂ tens₂
+          → Behind run (calls k (readerOf (o .scalars) m') (drop n w) last) (count + 1) (used + n) rows₀ tens₀ rows₂ tens₂
+      goes-on k rows₂ tens₂ b p =
+          rw (p .rows, p .tens, ← row-is, ← tens-are) (one-more seen _ (rw (ends k _ (given .said)) at b))

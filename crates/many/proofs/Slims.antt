@@ -1,4 +1,4 @@
--- An event without the arguments that stand beside a command has the same row and the same twenty numbers. Assumes nothing.
+-- An event without the arguments that stand beside a command has the same row and the same twenty numbers, and its call uses as many bytes. Assumes nothing.
 use Prim.Native.Nat.{ℕ}
 use mathlib.Core.Path.{_≡_, refl, ap}
 use mathlib.Core.List.{List}
@@ -9,6 +9,7 @@ use Rattle.item.specs.Contents.{tagNumber}
 use Rattle.item.specs.declared.Cid.{Cid}
 use Rattle.state.specs.Reading.{Event, tickStart, tickEnd, playerNew, playerChange, playerOld, input, other}
 use Rattle.state.specs.Views.{slim, slimSaid}
+use Rattle.state.specs.Laws.{usedIn}
 use Rattle.step.proofs.Others.{cid-own}
 use Rattle.many.specs.Many.{hasClient, clientOr0, row, eventRow, eventTens}
 
@@ -29,6 +30,12 @@ slim-tens (playerChange c x y old-x old-y) ten former = refl
 slim-tens (playerOld c x y) ten former = refl
 slim-tens (input c held) ten former = refl
 slim-tens (other r) ten former = refl
+
+pub slim-used : (x : Said Event) → usedIn (slimSaid x) ≡ usedIn x
+slim-used (gives e n) = refl
+slim-used more = refl
+slim-used (finish n) = refl
+slim-used (refuses k vs) = refl
 
 -- ---- what was said, from the same without arguments
 

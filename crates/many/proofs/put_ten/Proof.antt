@@ -30,9 +30,9 @@ loop-again c =
     let h : length (a .t3) ≡ 10 = search needs in
     let x = element (getD (a .t3) (l .k) (pos 0)) (c .x .given) in
     let e : set (l .tens) (a .at + l .k) (toZ w32 (ofZ w32 (getD (a .t3) (l .k) (pos 0)))) ≡ paste (a .tens .now) (a .at) (a .t3) (l .k + 1) =
-        (λ i. set (l .inv .1 .1 i) (a .at + l .k) (x i))
-        ∙ paste-suc (a .tens .now) (a .at) (a .t3) (l .k) (pos 0) (omega arith) (omega arith)
-        ∙ ap (paste (a .tens .now) (a .at) (a .t3)) (sym (add-one (l .k))) in
+    (λ i. set (l .inv .1 .1 i) (a .at + l .k) (x i))
+    ∙ paste-suc (a .tens .now) (a .at) (a .t3) (l .k) (pos 0) (omega arith) (omega arith)
+    ∙ ap (paste (a .tens .now) (a .at) (a .t3)) (sym (add-one (l .k))) in
     (omega arith, (length-set (l .tens) (a .at + l .k) _ ∙ l .inv .1 .0, e))
 
 returns : tie.Need-returns Inv-loop μ-loop

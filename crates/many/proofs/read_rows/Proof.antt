@@ -1,0 +1,127 @@
+-- `many::read_rows` meets its contract. Assumes nothing.
+use Prim.Native.Nat.{_-_}
+use mathlib.Core.Path.{_≡_, sym, _∙_}
+use native.Mathlib.Omega.{arith}
+use borrow.Author.Needs.{needs}
+use mir.Syntax.{w32}
+use mir.Val.{toZ, ofZ}
+use Rattle.state.specs.State.{memory}
+use Rattle.many.specs.Many.{calls}
+use Rattle.many.specs.Stores.{readerWith}
+use Rattle.many.proofs.Turns.{Going, starts, full, fits, turn, more, finish, refused}
+use Rattle.many.proofs.read_rows.Statement.{statement}
+use Rattle.many.proofs.read_rows.Tie as tie
+
+abbrev Inv-loop : tie.InvT-loop
+Inv-loop marks₀ xs₀ ys₀ held₀ inputs₀ input₀ former₀ w last rows₀ tens₀ room s₀ count₀ used₀ marks xs ys held inputs input former rows tens s count used =
+    Going (calls room (readerWith s₀ marks₀ xs₀ ys₀ held₀ inputs₀) w last) room w last rows₀ tens₀ s
+    (memory marks xs ys held inputs input former) count used rows tens
+
+abbrev μ-loop : tie.MeasureT-loop
+μ-loop marks₀ xs₀ ys₀ held₀ inputs₀ input₀ former₀ w last rows₀ tens₀ room s₀ count₀ used₀ marks xs ys held inputs input former rows tens s count used =
+    room - count
+
+loop-holds : tie.Need-loop-holds Inv-loop μ-loop
+loop-holds c =
+    let a = c .before .args in
+    starts (a .room) (a .w .now) (a .last) (a .rows .now) (a .tens .now) (a .scalars)
+    (memory (a .marks .now) (a .xs .now) (a .ys .now) (a .held .now) (a .inputs .now) (a .input .now) (a .former .now)) (c .before .pre .0)
+
+put-event-requires : tie.Need-put-event-requires Inv-loop μ-loop
+put-event-requires c κs =
+    let l = c .before .before .before .before .before .before .before .before .before .before .before .before .before .before .before .before .before .before .before .before .loop in
+    let test = c .before .before .before .before .before .before .before .before .before .before .before .before .before .before .before .before .before .before .before .loop-test .taken in
+    let pre = c .before .before .before .before .before .before .before .before .before .before .before .before .before .before .before .before .before .before .before .before .before .before .pre .1 in
+    record { rows = omega (arith, test, pre .rows, l .inv .rows); tens = omega (arith, test, pre .tens, l .inv .tens) }
+
+add-used : tie.Need-add-used Inv-loop μ-loop
+add-used c =
+    let l = c .before .before .before .before .before .before .before .before .before .before .before .before .before .before .before .before .before .before .before .before .before .before .before .loop in
+    let test = c .before .before .before .before .before .before .before .before .before .before .before .before .before .before .before .before .before .before .before .before .before .before .loop-test .taken in
+    let o = c .before .before .before .before .before .before .before .before .before .before .before .before .good-call in
+    let k = o .last .1 in
+    let m = memory (k .0) (k .1 .0) (k .1 .1 .0) (k .1 .1 .1 .0) (k .1 .1 .1 .1 .0) (k .1 .1 .1 .1 .1 .0) (k .1 .1 .1 .1 .1 .1 .0) in
+    let g = c .before .before .before .before .before .before .before .before .before .answer .given in
+    let u = rw (g .1) at (fits (l .inv) test (o .result) m (o .ensures)) in
+    record { fits = omega (arith, u, c .before .before .before .before .before .before .before .before .before .before .before .before .before .before .before .before .before .before .before .before .before .before .before .before .before .good .1 .1 .1 .1 .1 .1 .1 .1 .0 .0) }
+
+add-count : tie.Need-add-count Inv-loop μ-loop
+add-count c =
+    let st = c .before .before .before .before .before .before .before .before .before .before .before .before .before .before .before .before .before .before .before .before .before .before .before .before .before in
+    record { fits = omega (arith, c .before .before .before .before .before .before .before .before .before .before .before .before .before .before .before .before .before .before .before .before .before .before .loop-test .taken, st .pre .1 .rows, st .good .1 .1 .1 .1 .1 .1 .1 .1 .1 .1 .0 .0) }
+
+loop-less : tie.Need-loop-less Inv-loop μ-loop
+loop-less c = omega (arith, c .before .before .before .before .before .before .before .before .before .before .before .before .before .before .before .before .before .before .before .before .before .before .loop-test .taken)
+
+loop-again : tie.Need-loop-again Inv-loop μ-loop
+loop-again c =
+    let l = c .before .before .before .before .before .before .before .before .before .before .before .before .before .before .before .before .before .before .before .before .before .before .before .loop in
+    let test = c .before .before .before .before .before .before .before .before .before .before .before .before .before .before .before .before .before .before .before .before .before .before .loop-test .taken in
+    let o = c .before .before .before .before .before .before .before .before .before .before .before .before .good-call in
+    let k = o .last .1 in
+    let m = memory (k .0) (k .1 .0) (k .1 .1 .0) (k .1 .1 .1 .0) (k .1 .1 .1 .1 .0) (k .1 .1 .1 .1 .1 .0) (k .1 .1 .1 .1 .1 .1 .0) in
+    let g = c .before .before .before .before .before .before .before .before .before .answer .given in
+    let n = c .before .before .before .before .before .before .before .wrapped in
+    let p = c .before .before .before .before .before .before .before .before .before .before .before .before .before .before .before .before .before .before .before .before .before .pending-flag in
+    let i : toZ w32 (ofZ w32 (n .result)) ≡ n .result = search needs in
+    let j : toZ w32 (ofZ w32 (p .result)) ≡ p .result = search needs in
+    turn (l .inv) test (o .result) m (o .ensures) (g .0 .0) (g .0 .1 .0) _ _ (g .1)
+    (rw (i, n .ensures, j, p .ensures) at (c .before .before .put-event .ensures)) (c .before .rows .given) (c .tens .given)
+
+returns : tie.Need-returns Inv-loop μ-loop
+returns c =
+    let l = c .before .before .before .before .before .before .before .before .before .before .before .before .before .before .before .loop in
+    let test = c .before .before .before .before .before .before .before .before .before .before .before .before .before .before .loop-test .taken in
+    let o = c .before .before .before .before .good-call in
+    let k = o .last .1 in
+    let m = memory (k .0) (k .1 .0) (k .1 .1 .0) (k .1 .1 .1 .0) (k .1 .1 .1 .1 .0) (k .1 .1 .1 .1 .1 .0) (k .1 .1 .1 .1 .1 .1 .0) in
+    rw (c .stopped .ensures) (more (l .inv) test (o .result) m (o .ensures) (c .before .enum-told .given .1))
+
+add-stopped : tie.Need-add-stopped Inv-loop μ-loop
+add-stopped c =
+    let l = c .before .before .before .before .before .before .before .before .before .before .before .before .before .before .before .loop in
+    let test = c .before .before .before .before .before .before .before .before .before .before .before .before .before .before .loop-test .taken in
+    let o = c .before .before .before .before .good-call in
+    let k = o .last .1 in
+    let m = memory (k .0) (k .1 .0) (k .1 .1 .0) (k .1 .1 .1 .0) (k .1 .1 .1 .1 .0) (k .1 .1 .1 .1 .1 .0) (k .1 .1 .1 .1 .1 .1 .0) in
+    let u = rw (c .before .answer2 .given .1) at (fits (l .inv) test (o .result) m (o .ensures)) in
+    record { fits = omega (arith, u, c .before .before .before .before .before .before .before .before .before .before .before .before .before .before .before .before .before .good .1 .1 .1 .1 .1 .1 .1 .1 .0 .0) }
+
+returns-2 : tie.Need-returns-2 Inv-loop μ-loop
+returns-2 c =
+    let l = c .before .before .before .before .before .before .before .before .before .before .before .before .before .before .before .before .loop in
+    let test = c .before .before .before .before .before .before .before .before .before .before .before .before .before .before .before .loop-test .taken in
+    let o = c .before .before .before .before .before .good-call in
+    let k = o .last .1 in
+    let m = memory (k .0) (k .1 .0) (k .1 .1 .0) (k .1 .1 .1 .0) (k .1 .1 .1 .1 .0) (k .1 .1 .1 .1 .1 .0) (k .1 .1 .1 .1 .1 .1 .0) in
+    let g = c .before .before .answer2 .given in
+    rw (c .stopped2 .ensures) (finish (l .inv) test (o .result) m (o .ensures) (g .0 .0) (g .1))
+
+returns-3 : tie.Need-returns-3 Inv-loop μ-loop
+returns-3 c =
+    let l = c .before .before .before .before .before .before .before .before .before .before .before .before .before .before .before .before .loop in
+    let test = c .before .before .before .before .before .before .before .before .before .before .before .before .before .before .before .loop-test .taken in
+    let o = c .before .before .before .before .before .good-call in
+    let k = o .last .1 in
+    let m = memory (k .0) (k .1 .0) (k .1 .1 .0) (k .1 .1 .1 .0) (k .1 .1 .1 .1 .0) (k .1 .1 .1 .1 .1 .0) (k .1 .1 .1 .1 .1 .1 .0) in
+    let g = c .before .before .answer3 .given in
+    rw (c .stopped3 .ensures) (refused (l .inv) test (o .result) m (o .ensures) (g .0 .0) (g .1))
+
+returns-4 : tie.Need-returns-4 Inv-loop μ-loop
+returns-4 c = rw (c .stopped4 .ensures) (full (c .before .before .loop .inv) (c .before .loop-test .left))
+
+pub read-rows-spec : {M : Type 1} → statement M
+read-rows-spec =
+    tie.close
+    (tie.spec Inv-loop μ-loop loop-holds (λ c κs. search needs) (λ c. search needs) (λ c. search needs) (λ c. search needs)
+    (λ c κs. search needs) (λ c. search needs) (λ c κs. search needs) put-event-requires add-used add-count loop-less loop-again
+    (λ c. search needs) (λ c κs. search needs)
+    (λ c. c .before .before .before .before .before .before .before .before .before .before .before .before .before .before .before .loop .inv .rows)
+    (λ c. c .before .before .before .before .before .before .before .before .before .before .before .before .before .before .before .loop .inv .tens)
+    returns (λ c. search needs) add-stopped (λ c κs. search needs)
+    (λ c. c .before .before .before .before .before .before .before .before .before .before .before .before .before .before .before .before .loop .inv .rows)
+    (λ c. c .before .before .before .before .before .before .before .before .before .before .before .before .before .before .before .before .loop .inv .tens)
+    returns-2 (λ c. search needs) (λ c κs. search needs)
+    (λ c. c .before .before .before .before .before .before .before .before .before .before .before .before .before .before .before .before .loop .inv .rows)
+    (λ c. c .before .before .before .before .before .before .before .before .before .before .before .before .before .before .before .before .loop .inv .tens)
+    returns-3 (λ c κs. search needs) (λ c. c .before .before .loop .inv .rows) (λ c. c .before .before .loop .inv .tens) returns-4)
