@@ -137,7 +137,13 @@ fn place(at: usize, used: usize, end: usize) -> usize {
 }
 
 // A turn on the bytes at hand, and its text.
-fn one_turn(left: Left, buf: &mut [u8], rows: &mut [i32], tens: &mut [i32], out: &mut [u8]) -> Left {
+fn one_turn(
+    left: Left,
+    buf: &mut [u8],
+    rows: &mut [i32],
+    tens: &mut [i32],
+    out: &mut [u8],
+) -> Left {
     let reader = left.reader;
     let before = left.hand;
     let hand = at_hand(buf, before);

@@ -1,7 +1,7 @@
 // Replays bodies by turns, with room for a few events only, and prints their lines. Standard input holds inputs one behind the other, each
 // after its length in two bytes, the low one first: a version byte, then a body.
-ghost use Prim.Native.Nat.{_≤_};
-ghost use lib.ListN.{length};
+ghost use mathlib.Core.Path.{_≡_};
+ghost use Prim.Native.Nat.{_-_, _≤_};
 use item::Version;
 use item::VersionOf;
 use libc::STDOUT_FILENO;
@@ -17,6 +17,23 @@ fn print(text: &[u8], n: usize) {
     io::write_all(STDOUT_FILENO, packer::show(text, start));
 }
 
+fn difference(a: usize, b: usize) -> usize
+    ensures { λ r. ⌜ r ≡ a - b ⌝ }
+{
+    if a < b {
+        return 0;
+    }
+    a - b
+}
+
+// At most the end.
+fn place(at: usize, used: usize, end: usize) -> usize {
+    if used < difference(end, at) {
+        return at + used;
+    }
+    end
+}
+
 // All of the body from its place on is at hand. A turn gives an event or ends; a call uses a byte or answers an event of a pending kind, of
 // which there are at most two for a byte.
 fn replay(version: Version, body: &[u8], rows: &mut [i32], tens: &mut [i32], out: &mut [u8]) {
@@ -25,23 +42,16 @@ fn replay(version: Version, body: &[u8], rows: &mut [i32], tens: &mut [i32], out
     let mut turns: usize = 0;
     while turns < 400000 {
         turns += 1;
-        if body.len() < at {
-            return;
-        }
         let rest = Part {
             at,
-            len: body.len() - at,
+            len: difference(body.len(), at),
         };
         let turned = replayer::turn(reader, packer::show(body, rest), rows, tens, out);
         print(out, turned.filled);
         if turned.ended {
             return;
         }
-        let used = turned.used;
-        if body.len() - at < used {
-            return;
-        }
-        at = at + used;
+        at = place(at, turned.used, body.len());
         let next = turned.reader;
         reader = next;
     }
