@@ -39,16 +39,37 @@ pub enum Ending {
 fn digit_count(n: u32) -> usize
     ensures { λ r. ⌜ r ≡ length (natural n) ⌝ }
 {
-    let mut rest = n;
-    let mut count: usize = 1;
-    while 9 < rest {
-        rest = rest / 10;
-        count += 1;
+    if n < 10 {
+        return 1;
     }
-    count
+    if n < 100 {
+        return 2;
+    }
+    if n < 1000 {
+        return 3;
+    }
+    if n < 10000 {
+        return 4;
+    }
+    if n < 100000 {
+        return 5;
+    }
+    if n < 1000000 {
+        return 6;
+    }
+    if n < 10000000 {
+        return 7;
+    }
+    if n < 100000000 {
+        return 8;
+    }
+    if n < 1000000000 {
+        return 9;
+    }
+    10
 }
 
-// The digits of n, the last one first: the place past them.
+// The digits of n, the last ones first and two at a time: the place past them.
 fn put_natural(n: u32, out: &mut [u8], at: usize) -> usize
     requires { ⌜ at + length (natural n) ≤ length (now out) ⌝ }
     ensures { λ r. ⌜ Puts (now (out .entry)) at (natural n) r (now (out .exit)) ⌝ }
@@ -56,10 +77,17 @@ fn put_natural(n: u32, out: &mut [u8], at: usize) -> usize
     let end = at + digit_count(n);
     let mut i = end;
     let mut rest = n;
-    while 9 < rest {
-        i -= 1;
-        out[i] = 48 + (rest % 10) as u8;
-        rest = rest / 10;
+    while 99 < rest {
+        let two = rest % 100;
+        out[i - 1] = 48 + (two % 10) as u8;
+        out[i - 2] = 48 + (two / 10) as u8;
+        i -= 2;
+        rest = rest / 100;
+    }
+    if 9 < rest {
+        out[at + 1] = 48 + (rest % 10) as u8;
+        out[at] = 48 + (rest / 10) as u8;
+        return end;
     }
     out[at] = 48 + rest as u8;
     end
