@@ -1,5 +1,5 @@
 -- Laws of a number's digits. Assumes nothing.
-use Prim.Native.Nat.{ℕ, zero, suc, _+_, _/_, _%_, _^_, _≤_, _<_}
+use Prim.Native.Nat.{ℕ, zero, suc, _+_, _-_, _/_, _%_, _^_, _≤_, _<_}
 use mathlib.Core.Path.{_≡_, refl, sym, _∙_, ap}
 use mathlib.Core.Bool.{Bool, true, false, cond}
 use mathlib.Core.List.{List, [], _∷_, _++_}
@@ -59,6 +59,24 @@ natural-more n h f =
 pub natural-longer : (n : ℕ) → 9 < n → n < 4294967296 → length (natural n) ≡ length (natural (n / 10)) + 1
 natural-longer n h f = ap length (natural-more n h f) ∙ length-append (natural (n / 10)) ((48 + n % 10) ∷ [])
 
+some-power : (k : ℕ) → 1 ≤ 10 ^ k
+some-power zero = omega arith
+some-power (suc k) = omega (arith, pow-suc 10 k, some-power k)
+
+-- by the power of ten at or below it
+pub count-from : (k n : ℕ) → 10 ^ k ≤ n → n < 10 ^ suc k → n < 4294967296 → suc k ≡ length (natural n)
+count-from zero n l h f = sym (ap length (natural-one n (omega (arith, pow-suc 10 0))))
+count-from (suc k) n l h f =
+    let p = pow-suc 10 k in
+    let q = pow-suc 10 (suc k) in
+    let some = some-power k in
+    omega (arith, count-from k (n / 10) (omega arith) (omega arith) (omega arith), natural-longer n (omega arith) f)
+
+pub two-longer : (n : ℕ) → 99 < n → n < 4294967296 → length (natural n) ≡ length (natural (n / 100)) + 2
+two-longer n h f =
+    let a : n / 10 / 10 ≡ n / 100 = omega arith in
+    rw (← a) (omega (arith, natural-longer n (omega arith) f, natural-longer (n / 10) (omega arith) (omega arith)))
+
 -- bytes of which the last one is put first
 pub sets-last : (a l : List ℕ) (at d : ℕ) → sets l at (a ++ (d ∷ [])) ≡ sets (set l (at + length a) d) at a
 sets-last [] l at d = rw add-zero
@@ -71,3 +89,15 @@ pub put-last : (out : List ℕ) (at n : ℕ) → 9 < n → n < 4294967296 → (i
 put-last out at n h f i e d q =
     let p : i ≡ at + length (natural (n / 10)) = omega (arith, natural-longer n h f) in
     rw (natural-more n h f, p, q) (sym (sets-last (natural (n / 10)) out at (48 + n % 10)))
+
+-- two digits
+pub put-two : (out : List ℕ) (at n : ℕ) → 99 < n → n < 4294967296 → (i : ℕ) → i ≡ at + length (natural n)
+    → sets (set (set out (i - 1) (48 + n % 100 % 10)) (i - 2) (48 + n % 100 / 10)) at (natural (n / 100)) ≡ sets out at (natural n)
+put-two out at n h f i e =
+    let a : n / 10 / 10 ≡ n / 100 = omega arith in
+    let b : n % 100 % 10 ≡ n % 10 = omega arith in
+    let c : n % 100 / 10 ≡ n / 10 % 10 = omega arith in
+    let l = natural-longer n (omega arith) f in
+    let m = natural-longer (n / 10) (omega arith) (omega arith) in
+    let p = put-last (set out (i - 1) (48 + n % 10)) at (n / 10) (omega arith) (omega arith) (i - 2) (omega arith) _ refl in
+    rw (← a, b, c) (p ∙ put-last out at n (omega arith) f (i - 1) (omega arith) _ refl)

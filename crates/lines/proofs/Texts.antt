@@ -1,6 +1,6 @@
 -- The lines: how long they are, and from which parts they are put. Assumes nothing.
-use Prim.Native.Nat.{ℕ, _+_, _*_, _≤_}
-use mathlib.Core.Path.{_≡_, sym, _∙_, ap}
+use Prim.Native.Nat.{ℕ, _+_, _*_, _≤_, _<_}
+use mathlib.Core.Path.{_≡_, ap}
 use mathlib.Core.List.{List, [], _∷_, _++_, append-assoc}
 use native.Mathlib.Omega.{arith}
 use lib.ListN.{length, length-append}
@@ -9,8 +9,6 @@ use borrow.Author.Tests.{le-leb, lt-leb}
 use Rattle.refusal.specs.declared.Refusal.the-variants.{ShortTarget}
 use Rattle.varint.specs.declared.Wrote.the-variants.{Past, Refused}
 use Rattle.packer.proofs.Joined.{Put, first-fits, next-fits, two-puts}
-use Rattle.packer.specs.declared.Part.{Part}
-use Rattle.item.specs.Records.{Content}
 use Rattle.item.specs.Contents.{cidOf, tagNumber}
 use Rattle.item.specs.declared.Cid.{Cid}
 use Rattle.item.specs.declared.Cid.the-variants.{Of, NoCid}
@@ -27,10 +25,12 @@ use Rattle.lines.specs.Lines.{
   inputWord,
   recordWord,
   client,
+  plainLine,
+  recordLine,
   lineOf,
   longest,
-  lineAnswer,
-  lineTarget,
+  textAnswer,
+  textTarget,
 }
 use Rattle.lines.proofs.Numbers.{spaced-le}
 
@@ -44,12 +44,12 @@ end-le ns = omega (arith, length-append (numbers ns) newline, numbers-le ns)
 
 -- a line of few numbers is no longer than the longest
 pub line-fits : (word : List ℕ) (ns : List ℤ) (at size : ℕ) → at + longest ≤ size → length word + 12 * length ns ≤ 137
-    → at + length (word ++ (numbers ns ++ newline)) ≤ size
+    → at + length (plainLine word ns) ≤ size
 line-fits word ns at size h k = omega (arith, length-append word (numbers ns ++ newline), end-le ns)
 
 -- no line is longer
 module _ (ten : List ℤ) (h : length ten ≡ 10) where
-  short : (word : List ℕ) (ns : List ℤ) → length word + 12 * length ns ≤ 137 → length (word ++ (numbers ns ++ newline)) ≤ longest
+  short : (word : List ℕ) (ns : List ℤ) → length word + 12 * length ns ≤ 137 → length (plainLine word ns) ≤ longest
   short word ns k = omega (arith, length-append word (numbers ns ++ newline), end-le ns)
 
   client-le : (i : Cid) → length (client i) ≤ 12
@@ -95,13 +95,13 @@ module _ (xs : List ℕ) (at : ℕ) (word : List ℕ) (z : ℤ) (rest : List ℕ
 
 -- an input
 module _ (z : ℤ) (ten : List ℤ) where
-  pub input-parts : (inputWord ++ spaced z) ++ (numbers ten ++ newline) ≡ inputWord ++ (numbers (z ∷ ten) ++ newline)
+  pub input-parts : (inputWord ++ spaced z) ++ (numbers ten ++ newline) ≡ plainLine inputWord (z ∷ ten)
   unfolding numbers
   input-parts = simp append-assoc
 
-  pub input-fits : (at size : ℕ) → at + longest ≤ size → length ten ≡ 10
+  pub input-fits : (at size : ℕ) → at + (18 + 12 * length ten) ≤ size
       → at + length ((inputWord ++ spaced z) ++ (numbers ten ++ newline)) ≤ size
-  input-fits at size h e = omega (arith, length-append (spaced z) (numbers ten ++ newline), spaced-le z, end-le ten)
+  input-fits at size h = omega (arith, length-append (spaced z) (numbers ten ++ newline), spaced-le z, end-le ten)
 
 abbrev pub noClient : List ℕ
 noClient = 0x20 ∷ 0x2D ∷ 0x0A ∷ []
@@ -110,31 +110,21 @@ pub no-client-fits : (k : ℤ) (at size : ℕ) → at + longest ≤ size → at 
 no-client-fits k at size h = omega (arith, length-append (spaced k) noClient, spaced-le k)
 
 -- a record with a client, and with none
-module _ (k : ℤ) (r : Content Part) (e : k ≡ tagNumber (r .tag)) where
-  told : (i : Cid) → cidOf r ≡ i → recordWord ++ (numbers (k ∷ []) ++ (client i ++ newline)) ≡ lineOf (other r) []
-  told i f =
-      ap (λ (n : ℤ). recordWord ++ (numbers (n ∷ []) ++ (client i ++ newline))) e
-      ∙ ap (λ (i : Cid). recordWord ++ (numbers (tagNumber (r .tag) ∷ []) ++ (client i ++ newline))) (sym f)
-
-  pub client-parts : (z : ℤ) → cidOf r ≡ Of z → recordWord ++ (numbers (k ∷ z ∷ []) ++ newline) ≡ lineOf (other r) []
+module _ (k : ℤ) where
+  pub client-parts : (z : ℤ) → plainLine recordWord (k ∷ z ∷ []) ≡ recordLine k (Of z)
   unfolding numbers
-  client-parts z f =
-      let g : recordWord ++ (numbers (k ∷ z ∷ []) ++ newline) ≡ recordWord ++ (numbers (k ∷ []) ++ (client (Of z) ++ newline)) =
-      simp append-assoc in
-      g ∙ told (Of z) f
+  client-parts z = simp append-assoc
 
-  pub no-client-parts : cidOf r ≡ NoCid → (recordWord ++ spaced k) ++ noClient ≡ lineOf (other r) []
+  pub no-client-parts : (recordWord ++ spaced k) ++ noClient ≡ recordLine k NoCid
   unfolding numbers
-  no-client-parts f =
-      let g : (recordWord ++ spaced k) ++ noClient ≡ recordWord ++ (numbers (k ∷ []) ++ (client NoCid ++ newline)) = simp append-assoc in
-      g ∙ told NoCid f
+  no-client-parts = simp append-assoc
 
 -- ---- what the public calls answer
 
-module _ (xs : List ℕ) (at : ℕ) (line : List ℕ) where
-  pub too-short : length xs ≤ at + 137 → (Refused ShortTarget ≡ lineAnswer xs at line) × (xs ≡ lineTarget xs at line)
-  too-short h = let t = lt-leb (at + longest) (length xs) (omega arith) in (simp t, simp t)
+module _ (most : ℕ) (xs : List ℕ) (at : ℕ) (text : List ℕ) where
+  pub too-short : length xs < at + most → (Refused ShortTarget ≡ textAnswer most xs at text) × (xs ≡ textTarget most xs at text)
+  too-short h = let t = lt-leb (at + most) (length xs) h in (simp t, simp t)
 
-  pub line-put : at + longest ≤ length xs → (next : ℕ) (ys : List ℕ) → Put xs at line next ys
-      → (Past next ≡ lineAnswer xs at line) × (ys ≡ lineTarget xs at line)
-  line-put h next ys p = let t = le-leb (at + longest) (length xs) h in rw t (ap Past (p .0), p .1)
+  pub line-put : at + most ≤ length xs → (next : ℕ) (ys : List ℕ) → Put xs at text next ys
+      → (Past next ≡ textAnswer most xs at text) × (ys ≡ textTarget most xs at text)
+  line-put h next ys p = let t = le-leb (at + most) (length xs) h in rw t (ap Past (p .0), p .1)

@@ -1,5 +1,5 @@
 -- The lines that the replay program prints. Document 01, "The replay program". A text is a list of bytes.
-use Prim.Native.Nat.{ℕ, zero, suc, _+_, _/_, _%_}
+use Prim.Native.Nat.{ℕ, zero, suc, _+_, _*_, _/_, _%_}
 use mathlib.Core.Path.{_≡_}
 use mathlib.Core.Bool.{cond}
 use mathlib.Core.List.{List, [], _∷_, _++_}
@@ -84,22 +84,33 @@ abbrev pub client : Cid → List ℕ
 client (Of c) = numbers (c ∷ [])
 client NoCid = 0x20 ∷ 0x2D ∷ []
 
+-- a word and numbers
+abbrev pub plainLine : List ℕ → List ℤ → List ℕ
+plainLine word ns = word ++ (numbers ns ++ newline)
+
+abbrev pub recordLine : ℤ → Cid → List ℕ
+recordLine k c = recordWord ++ (numbers (k ∷ []) ++ (client c ++ newline))
+
 abbrev pub lineOf : Event → List ℤ → List ℕ
-lineOf (tickStart t) ten = startWord ++ (numbers (t ∷ []) ++ newline)
-lineOf (tickEnd t) ten = endWord ++ (numbers (t ∷ []) ++ newline)
-lineOf (playerNew c x y) ten = newWord ++ (numbers (c ∷ x ∷ y ∷ []) ++ newline)
-lineOf (playerChange c x y old-x old-y) ten = changeWord ++ (numbers (c ∷ x ∷ y ∷ old-x ∷ old-y ∷ []) ++ newline)
-lineOf (playerOld c x y) ten = oldWord ++ (numbers (c ∷ x ∷ y ∷ []) ++ newline)
-lineOf (input c former) ten = inputWord ++ (numbers (c ∷ ten) ++ newline)
-lineOf (other r) ten = recordWord ++ (numbers (tagNumber (r .tag) ∷ []) ++ (client (cidOf r) ++ newline))
+lineOf (tickStart t) ten = plainLine startWord (t ∷ [])
+lineOf (tickEnd t) ten = plainLine endWord (t ∷ [])
+lineOf (playerNew c x y) ten = plainLine newWord (c ∷ x ∷ y ∷ [])
+lineOf (playerChange c x y old-x old-y) ten = plainLine changeWord (c ∷ x ∷ y ∷ old-x ∷ old-y ∷ [])
+lineOf (playerOld c x y) ten = plainLine oldWord (c ∷ x ∷ y ∷ [])
+lineOf (input c former) ten = plainLine inputWord (c ∷ ten)
+lineOf (other r) ten = recordLine (tagNumber (r .tag)) (cidOf r)
 
 -- the last line
 abbrev pub lastLine : Ending → List ℕ
 lastLine Finish = finishWord ++ newline
-lastLine (Refused r) = refusedWord ++ (numbers (pos (numberOf r) ∷ []) ++ newline)
+lastLine (Refused r) = plainLine refusedWord (pos (numberOf r) ∷ [])
 lastLine TooLong = tooLongWords ++ newline
 
--- the longest line: `input`, eleven numbers of eleven bytes with a space before each, and the newline
+-- a line with each number at its longest: a space and eleven bytes
+abbrev pub plainMost : List ℕ → List ℤ → ℕ
+plainMost word ns = length word + 12 * length ns + 1
+
+-- the longest line: `input` and eleven numbers
 abbrev pub longest : ℕ
 longest = 138
 
@@ -109,10 +120,17 @@ longest = 138
 abbrev pub Puts : List ℕ → ℕ → List ℕ → ℕ → List ℕ → Type 0
 Puts xs at bs next ys = (next ≡ at + length bs) × (ys ≡ written xs at bs)
 
--- the place past the line; refusal 9 where the longest line wouldn't fit
-abbrev pub lineAnswer : List ℕ → ℕ → List ℕ → Wrote
-lineAnswer xs at line = cond (leb (at + longest) (length xs)) (wrotes.Past (at + length line)) (wrotes.Refused ShortTarget)
+-- the place past a text; refusal 9 where there is no room for so many bytes
+abbrev pub textAnswer : ℕ → List ℕ → ℕ → List ℕ → Wrote
+textAnswer most xs at text = cond (leb (at + most) (length xs)) (wrotes.Past (at + length text)) (wrotes.Refused ShortTarget)
 
--- the target after it: unchanged where the longest line wouldn't fit
+-- the target after it: unchanged where there is no room
+abbrev pub textTarget : ℕ → List ℕ → ℕ → List ℕ → List ℕ
+textTarget most xs at text = cond (leb (at + most) (length xs)) (written xs at text) xs
+
+-- where the longest line has to fit
+abbrev pub lineAnswer : List ℕ → ℕ → List ℕ → Wrote
+lineAnswer = textAnswer longest
+
 abbrev pub lineTarget : List ℕ → ℕ → List ℕ → List ℕ
-lineTarget xs at line = cond (leb (at + longest) (length xs)) (written xs at line) xs
+lineTarget = textTarget longest

@@ -17,6 +17,12 @@ room : (word : List ℕ) (ns : List ℤ) (c : tie.Start) → length word + 12 * 
     → c .args .at + length (word ++ (numbers ns ++ newline)) ≤ length (c .args .out .now)
 room word ns c k = line-fits word ns (c .args .at) (length (c .args .out .now)) (c .pre) k
 
+ten-fits : tie.Need-put-input-requires
+ten-fits c κs =
+    let s = c .before .before .before .before .before .before in
+    let ten : length (s .args .t2) ≡ 10 = search needs in
+    omega arith
+
 -- numbers are read back from their bits
 returns : tie.Need-returns
 returns c =
@@ -58,12 +64,16 @@ returns-5 c =
 
 returns-6 : tie.Need-returns-6
 returns-6 c =
-    let g = c .before .before .before .before .before .event6 .given in
+    let g = c .before .before .before .before .before .before .event6 .given in
     let v0 : toZ w32 (ofZ w32 (g .0 .0)) ≡ g .0 .0 = search needs in
     rw (g .1) (rw v0 at (c .before .before .put-input .ensures))
 
 returns-7 : tie.Need-returns-7
-returns-7 c = rw (c .before .before .before .before .before .event7 .given .1) (c .before .before .put-record .ensures)
+returns-7 c =
+    let k = c .before .before .before .before .before in
+    let v : toZ w32 (ofZ w32 (k .kind-number .result)) ≡ k .kind-number .result = search needs in
+    rw (k .before .before .event7 .given .1, ← k .kind-number .ensures, ← c .before .before .before .before .cid .ensures)
+    (rw v at (c .before .before .put-record .ensures))
 
 pub put-event-spec : {M : Type 1} → statement M
 put-event-spec =
@@ -79,7 +89,7 @@ put-event-spec =
     (λ c κs. room changeWord _ (c .before .before .before .before .before .before .before) (omega arith))
     (λ c. search needs) (λ c. search needs) (λ c. search needs)
     (λ c κs. room oldWord _ (c .before .before .before .before .before .before .before) (omega arith))
-    (λ c. search needs) (λ c κs. search needs) (λ c. search needs) (λ c κs. search needs)
+    (λ c. search needs) (λ c. search needs) ten-fits (λ c. search needs) (λ c κs. search needs) (λ c κs. search needs) (λ c κs. search needs)
     (λ c. search needs) returns
     (λ c. search needs) returns-2
     (λ c. search needs) returns-3

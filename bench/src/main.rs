@@ -1,0 +1,68 @@
+//! Reading and replaying the same bodies by libtw2 and by the proved reader: bench DIR ROUNDS
+//!
+//! DIR holds bodies named SORT-MEGABYTES, each after its version byte, and both replay programs are run on them.
+
+mod programs;
+mod readers;
+mod report;
+
+use report::Report;
+use std::io;
+use std::path::Path;
+use std::process::ExitCode;
+
+const SORTS: [&str; 4] = ["match", "moves", "inputs", "chat"];
+const MEGABYTES: [u64; 3] = [5, 20, 80];
+const ORACLE: &str = concat!(env!("CARGO_MANIFEST_DIR"), "/../oracle/target/oracle");
+const REPLAY: &str = concat!(env!("CARGO_MANIFEST_DIR"), "/../target/bin/replay");
+
+fn main() -> ExitCode {
+    let words: Vec<String> = std::env::args().skip(1).collect();
+    let [directory, rounds] = words.as_slice() else {
+        eprintln!("usage: bench DIR ROUNDS");
+        return ExitCode::from(2);
+    };
+    let rounds = rounds.parse().unwrap_or(1);
+    match run(Path::new(directory), rounds) {
+        Ok(()) => ExitCode::SUCCESS,
+        Err(error) => {
+            eprintln!("bench: {error}");
+            ExitCode::FAILURE
+        }
+    }
+}
+
+fn run(directory: &Path, rounds: u32) -> io::Result<()> {
+    for sort in SORTS {
+        let mut reports = Vec::new();
+        for megabytes in MEGABYTES {
+            let file = directory.join(format!("{sort}-{megabytes}"));
+            let report = measure(&file, rounds)?;
+            report.print(sort, megabytes);
+            reports.push(report);
+        }
+        report::growth(sort, &reports);
+    }
+    Ok(())
+}
+
+fn measure(file: &Path, rounds: u32) -> io::Result<Report> {
+    let input = std::fs::read(file)?;
+    let (version, body) = input
+        .split_first()
+        .ok_or_else(|| oracle::invalid("an empty body"))?;
+    let events = readers::libtw2(*version, body)?;
+    let mut report = Report::new(events, body.len() as u64);
+    for round in 0..rounds.max(1) {
+        report.readers[0].time(|| readers::libtw2(*version, body))?;
+        report.readers[1].time(|| readers::many(*version, body))?;
+        // by value it takes seconds
+        if round < 2 {
+            report.readers[2].time(|| readers::each(*version, body))?;
+        }
+        report.programs[0].run(ORACLE, &["replay"], file)?;
+        report.programs[1].run(REPLAY, &[], file)?;
+    }
+    report.check()?;
+    Ok(report)
+}

@@ -1,0 +1,55 @@
+//! A replay program run on a file, its output thrown away: the time and the most memory that it took.
+
+use std::fs::File;
+use std::io;
+use std::path::Path;
+use std::process::Command;
+use std::process::Stdio;
+use std::time::Duration;
+use std::time::Instant;
+
+pub struct Took {
+    pub time: Duration,
+    pub kilobytes: u64,
+}
+
+/// The part of C's `struct rusage` that is read here, with room for the rest.
+#[repr(C)]
+struct Usage {
+    times: [i64; 4],
+    kilobytes: i64,
+    rest: [i64; 13],
+}
+
+extern "C" {
+    fn wait4(process: i32, status: *mut i32, options: i32, usage: *mut Usage) -> i32;
+}
+
+pub fn run(program: &str, words: &[&str], file: &Path) -> io::Result<Took> {
+    let input = File::open(file)?;
+    let begin = Instant::now();
+    let child = Command::new(program)
+        .args(words)
+        .stdin(input)
+        .stdout(Stdio::null())
+        .spawn()
+        .map_err(|error| io::Error::new(error.kind(), format!("{program}: {error}")))?;
+    let mut status = 0;
+    let mut usage = Usage {
+        times: [0; 4],
+        kilobytes: 0,
+        rest: [0; 13],
+    };
+    // SAFETY: both pointers are to locals of the types that Linux on x86-64 fills in
+    let ended = unsafe { wait4(child.id() as i32, &mut status, 0, &mut usage) };
+    let time = begin.elapsed();
+    if ended < 0 || status != 0 {
+        return Err(io::Error::other(format!(
+            "{program} ended with status {status}"
+        )));
+    }
+    Ok(Took {
+        time,
+        kilobytes: usage.kilobytes as u64,
+    })
+}

@@ -1,0 +1,58 @@
+//! The readers, each over a whole body in memory; each answers the number of events.
+
+use oracle::invalid;
+use oracle::run::Pace;
+use oracle::run::Run;
+use std::hint::black_box;
+use std::io;
+
+/// How many events the proved reader reads in one call.
+const ROOM: usize = 4096;
+
+extern "C" {
+    fn jolzerv_count_each(second: bool, body: *const u8, length: usize) -> u64;
+    fn jolzerv_count_many(
+        second: bool,
+        body: *const u8,
+        length: usize,
+        rows: *mut i32,
+        rows_length: usize,
+        tens: *mut i32,
+        tens_length: usize,
+    ) -> u64;
+}
+
+pub fn libtw2(version: u8, body: &[u8]) -> io::Result<u64> {
+    let mut run =
+        Run::new(version, body, Pace::Whole).ok_or_else(|| invalid("neither 01 nor 02"))?;
+    let mut events = 0;
+    while let Some(event) = run.read().map_err(|_| invalid("the body is refused"))? {
+        black_box(&event);
+        events += 1;
+    }
+    Ok(events)
+}
+
+/// The proved reader by value, one event a call.
+pub fn each(version: u8, body: &[u8]) -> io::Result<u64> {
+    // SAFETY: a pointer and a length of one slice, which the call only reads
+    Ok(unsafe { jolzerv_count_each(version == 2, body.as_ptr(), body.len()) })
+}
+
+/// The proved reader, many events a call.
+pub fn many(version: u8, body: &[u8]) -> io::Result<u64> {
+    let mut rows = vec![0; 8 * ROOM];
+    let mut tens = vec![0; 20 * ROOM];
+    // SAFETY: a pointer and a length for each of three slices, which do not overlap
+    Ok(unsafe {
+        jolzerv_count_many(
+            version == 2,
+            body.as_ptr(),
+            body.len(),
+            rows.as_mut_ptr(),
+            rows.len(),
+            tens.as_mut_ptr(),
+            tens.len(),
+        )
+    })
+}

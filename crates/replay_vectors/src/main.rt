@@ -1,0 +1,113 @@
+// Replays bodies by turns, with room for a few events only, and prints their lines. Standard input holds inputs one behind the other, each
+// after its length in two bytes, the low one first: a version byte, then a body.
+ghost use mathlib.Core.Path.{_≡_};
+ghost use Prim.Native.Nat.{_-_, _≤_};
+use item::Version;
+use item::VersionOf;
+use libc::STDOUT_FILENO;
+use lines::Ending;
+use packer::Part;
+use refusal::Refusal;
+use state::Reader;
+use varint::Wrote;
+
+// The first n bytes.
+fn print(text: &[u8], n: usize) {
+    let start = Part { at: 0, len: n };
+    io::write_all(STDOUT_FILENO, packer::show(text, start));
+}
+
+fn difference(a: usize, b: usize) -> usize
+    ensures { λ r. ⌜ r ≡ a - b ⌝ }
+{
+    if a < b {
+        return 0;
+    }
+    a - b
+}
+
+// At most the end.
+fn place(at: usize, used: usize, end: usize) -> usize {
+    if used < difference(end, at) {
+        return at + used;
+    }
+    end
+}
+
+// All of the body from its place on is at hand. A turn gives an event or ends; a call uses a byte or answers an event of a pending kind, of
+// which there are at most two for a byte.
+fn replay(version: Version, body: &[u8], rows: &mut [i32], tens: &mut [i32], out: &mut [u8]) {
+    let mut reader = Reader::empty(version);
+    let mut at: usize = 0;
+    let mut turns: usize = 0;
+    while turns < 400000 {
+        turns += 1;
+        let rest = Part {
+            at,
+            len: difference(body.len(), at),
+        };
+        let turned = replayer::turn(reader, packer::show(body, rest), rows, tens, out);
+        print(out, turned.filled);
+        if turned.ended {
+            return;
+        }
+        at = place(at, turned.used, body.len());
+        let next = turned.reader;
+        reader = next;
+    }
+}
+
+fn refuse(refusal: Refusal) {
+    let mut line = [0u8; 138];
+    let Wrote::Past(n) = lines::write_last(Ending::Refused(refusal), &mut line, 0) else {
+        return;
+    };
+    print(&line, n);
+}
+
+fn number(b: u8) -> i32 {
+    b as i32
+}
+
+fn run_case(input: &[u8]) {
+    let mut rows = [0i32; 27];
+    let mut tens = [0i32; 70];
+    let mut out = [0u8; 600];
+    if input.len() == 0 {
+        refuse(Refusal::UnknownVersion);
+        return;
+    }
+    match item::version_of(number(input[0])) {
+        VersionOf::Is(version) => replay(version, &input[1..], &mut rows, &mut tens, &mut out),
+        VersionOf::Refused(r) => refuse(r),
+    }
+}
+
+fn size(b: u8) -> usize
+    ensures { λ r. ⌜ r ≤ 255 ⌝ }
+{
+    b as usize
+}
+
+fn run(s: &[u8]) {
+    let mut at: usize = 0;
+    while at < s.len() {
+        if s.len() - at < 2 {
+            return;
+        }
+        let start = at + 2;
+        let len = size(s[at]) + 256 * size(s[at + 1]);
+        if s.len() - start < len {
+            return;
+        }
+        let end = start + len;
+        run_case(&s[start..end]);
+        at = end;
+    }
+}
+
+fn main() {
+    let mut buf = io::large_buffer();
+    let n = io::read_full(0, &mut buf);
+    run(&buf[..n]);
+}

@@ -1,0 +1,5 @@
+pub mod FromRows
+pub mod Onward
+pub mod Blocks
+pub mod Tens
+pub mod OneTurn

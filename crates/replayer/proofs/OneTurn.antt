@@ -1,0 +1,157 @@
+-- One turn, from what its calls ensure. Assumes nothing.
+use Prim.Native.Nat.{ℕ, zero, suc, _+_, _*_, _/_, _≤_, _<_, min}
+use mathlib.Core.Path.{_≡_, refl, sym, _∙_, ap}
+use mathlib.Core.Bool.{Bool, true, false}
+use mathlib.Core.List.{List, [], _∷_, _++_}
+use native.Mathlib.Omega.{arith}
+use borrow.Author.Tests.{le-leb, leb-true, leb-false}
+use lib.Dec.{leb}
+use lib.ListN.{length, take, drop, length-append}
+use lib.Seq.{length-take-le, take-all, take-length}
+use lib.IntN.{ℤ, pos}
+use Rattle.num.proofs.Cases.{by-bool}
+use Rattle.varint.specs.Written.{written}
+use Rattle.packer.proofs.Joined.{written-length, two-puts}
+use Rattle.state.specs.declared.Reader.{Reader}
+use Rattle.many.specs.Many.{Seen, Halt, isFull, wantsMore, finishes, isRefused, Run, calls, haltOf, room, rowsFrom, tensFrom, Tells}
+use Rattle.many.specs.declared.ManyAnswer.{ManyAnswer}
+use Rattle.lines.specs.Lines.{longest, Puts, refusedWord}
+use Rattle.lines.proofs.Texts.{line-fits}
+use Rattle.replayer.specs.Replay.{full, windowOf, isLast, textOf, ends, endingOf, runText, turnRoom, turnRun, Turns}
+use Rattle.replayer.specs.Rows.{AllTold, PutsLines}
+use Rattle.replayer.specs.declared.Turned.{Turned}
+use Rattle.replayer.proofs.Onward.{text-le}
+use Rattle.replayer.proofs.Blocks.{Tens, all-told, rows-length, tens-length, front-rows, front-tens}
+use Rattle.replayer.proofs.Tens.{few}
+
+-- the window's end is no further than the bytes
+take-least : (l : List ℕ) (c : ℕ) → take (min (length l) c) l ≡ take c l
+take-least l c =
+    by-bool (leb (length l) c)
+    (λ t. let h = leb-true (length l) c t in
+    let e : min (length l) c ≡ length l = omega arith in
+    rw e (take-length l ∙ sym (take-all c l h)))
+    (λ t. let h = leb-false (length l) c t in
+    let e : min (length l) c ≡ c = omega arith in
+    rw e)
+
+ending-le : (h : Halt) (n : ℕ) → length (endingOf h n) ≤ longest
+ending-le isFull n = omega arith
+ending-le wantsMore zero = omega arith
+ending-le wantsMore (suc n) = omega arith
+ending-le finishes n = omega arith
+ending-le (isRefused k vs) n = omega (arith, line-fits refusedWord (pos k ∷ []) 0 longest (omega arith) (omega arith))
+
+written-front : (xs bs : List ℕ) → length bs ≤ length xs → written xs 0 bs ≡ bs ++ drop (length bs) xs
+unfolding written
+written-front xs bs h =
+    let e : 0 + length bs ≡ length bs = omega arith in
+    rw (e, le-leb (length bs) (length xs) h)
+
+module _ (reader : Reader) (bytes : List ℕ) (rows tens : List ℤ) (out : List ℕ) (n : ℕ) (is : n ≡ turnRoom rows tens out) where
+  -- ---- room for no event
+
+  pub nothing : n ≡ 0 → Turns (turnRun (turnRoom rows tens out) reader bytes) rows tens out
+      (record { reader = reader; used = 0; filled = 0; ended = false }) rows tens out
+  unfolding calls textOf rowsFrom tensFrom
+  nothing e =
+      let z : turnRoom rows tens out ≡ 0 = sym is ∙ e in
+      rw z (record { left = refl; used = refl; filled = refl; ended = refl; out = refl; rows = refl; tens = refl })
+
+  -- ---- room for some
+
+  module _ (some : n ≡ 0 → ⊥) where
+    pub rows-fit : 8 * n ≤ length rows
+    rows-fit = omega arith
+
+    pub tens-fit : 20 * n ≤ length tens
+    tens-fit = omega arith
+
+    lines-fit : longest * n + longest ≤ length out
+    lines-fit = omega arith
+
+    room-is : room (take (8 * n) rows) (take (20 * n) tens) ≡ n
+    room-is =
+        let a = length-take-le (8 * n) rows rows-fit in
+        let b = length-take-le (20 * n) tens tens-fit in
+        omega arith
+
+    abbrev run : Run
+    run = turnRun n reader bytes
+
+    abbrev seen : List Seen
+    seen = run .seen
+
+    module _ (m : ManyAnswer) (rows₁ tens₁ : List ℤ) (end : ℕ) (e : end ≡ min (length bytes) full)
+        (t : Tells (calls (room (take (8 * n) rows) (take (20 * n) tens)) reader (take end bytes) (isLast bytes)) (take (8 * n) rows) (take (20 * n) tens) m rows₁ tens₁)
+      where
+        ran : Tells run (take (8 * n) rows) (take (20 * n) tens) m rows₁ tens₁
+        ran = rw (e, room-is, take-least bytes full) at t
+
+        count-le : m .count ≤ n
+        count-le = omega (arith, ran .count, few n reader (windowOf bytes) (isLast bytes) .0)
+
+        tens-beside : Tens seen
+        tens-beside = few n reader (windowOf bytes) (isLast bytes) .1
+
+        rows-now : rows₁ ++ drop (8 * n) rows ≡ rowsFrom 0 seen rows
+        rows-now = rw (ran .rows) (front-rows seen tens-beside (8 * n) rows rows-fit (omega (arith, ran .count, count-le)))
+
+        tens-now : tens₁ ++ drop (20 * n) tens ≡ tensFrom 0 seen tens
+        tens-now = rw (ran .tens) (front-tens seen tens-beside (20 * n) tens tens-fit (omega (arith, ran .count, count-le)))
+
+        seen-rows : 8 * length seen ≤ length rows
+        seen-rows = omega (arith, ran .count, count-le, rows-fit)
+
+        seen-tens : 20 * length seen ≤ length tens
+        seen-tens = omega (arith, ran .count, count-le, tens-fit)
+
+        pub rows-enough : (8 * m .count ≤ length (rows₁ ++ drop (8 * n) rows)) × (20 * m .count ≤ length (tens₁ ++ drop (20 * n) tens))
+        rows-enough =
+            rw (rows-now, tens-now, ran .count, rows-length seen tens-beside rows seen-rows, tens-length seen tens-beside tens seen-tens)
+            (seen-rows, seen-tens)
+
+        told : AllTold 0 seen (rows₁ ++ drop (8 * n) rows) (tens₁ ++ drop (20 * n) tens)
+        told =
+            rw (rows-now, tens-now)
+            (all-told seen tens-beside rows tens seen-rows seen-tens)
+
+        text-fits : length (textOf seen) + longest ≤ length out
+        text-fits =
+            omega (arith, text-le (rows₁ ++ drop (8 * n) rows) (tens₁ ++ drop (20 * n) tens) 0 seen told, ran .count, count-le, lines-fit)
+
+        module _ (at : ℕ) (out₁ : List ℕ) (p : PutsLines (rows₁ ++ drop (8 * n) rows) (tens₁ ++ drop (20 * n) tens) (m .count) out at out₁) where
+          lines : Puts out 0 (textOf seen) at out₁
+          lines = p seen (sym (ran .count)) told (omega (arith, count-le, lines-fit))
+
+          pub last-fits : at + longest ≤ length out₁
+          last-fits =
+              let l : length out₁ ≡ length out = ap length (lines .1) ∙ written-length out 0 (textOf seen) (omega (arith, text-fits)) in
+              omega (arith, lines .0, text-fits)
+
+          module _ (filled : ℕ) (out₂ : List ℕ) (q : Puts out₁ at (endingOf (haltOf (m .stop)) (m .count)) filled out₂) where
+            all-fits : length (runText run) ≤ length out
+            all-fits =
+                let last = endingOf (run .halt) (length seen) in
+                omega (arith, length-append (textOf seen) last, ending-le (run .halt) (length seen), text-fits)
+
+            whole : Puts out 0 (runText run) filled out₂
+            whole =
+                two-puts out 0 (textOf seen) (endingOf (run .halt) (length seen)) (omega (arith, all-fits)) at out₁ lines filled out₂
+                (rw (ran .halt, ran .count) at q)
+
+            pub turned : (ended : Bool) → ended ≡ ends (haltOf (m .stop)) (m .count)
+                → Turns (turnRun (turnRoom rows tens out) reader bytes) rows tens out
+                (record { reader = m .reader; used = m .used; filled = filled; ended = ended })
+                (rows₁ ++ drop (8 * n) rows) (tens₁ ++ drop (20 * n) tens) out₂
+            turned ended f =
+                rw (← is)
+                (record {
+                  left = ran .left;
+                  used = ran .used;
+                  filled = whole .0 ∙ omega arith;
+                  ended = rw (ran .halt, ran .count) at f;
+                  out = whole .1 ∙ written-front out (runText run) all-fits;
+                  rows = rows-now;
+                  tens = tens-now;
+                })

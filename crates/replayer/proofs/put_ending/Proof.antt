@@ -1,0 +1,72 @@
+-- `replayer::put_ending` meets its contract. Assumes nothing.
+use Prim.Native.Nat.{ℕ, zero, suc, _≤_, _+_}
+use mathlib.Core.Path.{_≡_, refl, _∙_, ap}
+use mathlib.Core.List.{List, []}
+use native.Mathlib.Omega.{arith}
+use borrow.Author.Needs.{needs}
+use lib.ListN.{length}
+use Rattle.varint.specs.declared.Wrote.{Wrote}
+use Rattle.packer.proofs.Joined.{nothing-put}
+use Rattle.lines.specs.Lines.{longest, Puts, lineAnswer, lineTarget}
+use Rattle.lines.proofs.Texts.{same-text}
+use Rattle.many.specs.Many.{wantsMore}
+use Rattle.replayer.specs.Rows.{pastOr}
+use Rattle.replayer.specs.Replay.{endingOf}
+use Rattle.replayer.proofs.FromRows.{puts-of}
+use Rattle.replayer.proofs.put_ending.Statement.{statement}
+use Rattle.replayer.proofs.put_ending.Tie as tie
+
+last-put : (xs : List ℕ) (at : ℕ) (line : List ℕ) → at + longest ≤ length xs → (next : ℕ) (ys : List ℕ) (w : Wrote) → next ≡ pastOr w at
+    → (w ≡ lineAnswer xs at line) × (ys ≡ lineTarget xs at line) → Puts xs at line next ys
+last-put xs at line h next ys w e p =
+    puts-of longest xs at line next ys h (e ∙ ap (λ (w : Wrote). pastOr w at) (p .0), p .1)
+
+no-line : (xs : List ℕ) (at : ℕ) → at + longest ≤ length xs → Puts xs at [] at xs
+no-line xs at h = (omega arith, nothing-put xs at (omega arith))
+
+returns : tie.Need-returns
+returns c =
+    let w = c .before .before .before in
+    let i = w .before .before in
+    let s = i .before .before .before .before in
+    let a = s .args in
+    rw (i .before .enum-told2 .given .1, i .if1 .taken)
+    (last-put (a .out .now) (a .at) _ (s .pre) _ _ _ (c .past .ensures) (w .write-last .ensures))
+
+returns-2 : tie.Need-returns-2
+returns-2 c =
+    let s = c .before .before .before in
+    rw (c .enum-told .given .1) (no-line (s .args .out .now) (s .args .at) (s .pre))
+
+some : (n : ℕ) → (n ≡ 0 → ⊥) → [] ≡ endingOf wantsMore n
+some zero f = absurd (f refl)
+some (suc n) f = refl
+
+returns-3 : tie.Need-returns-3
+returns-3 c =
+    let s = c .before .before .before .before in
+    rw (c .before .enum-told2 .given .1)
+    (same-text (s .args .out .now) (s .args .at) _ _ (some (s .args .count) (c .if1 .left)) _ _ (no-line (s .args .out .now) (s .args .at) (s .pre)))
+
+returns-4 : tie.Need-returns-4
+returns-4 c =
+    let w = c .before .before .before in
+    let t = w .before .before in
+    let s = t .before .before .before in
+    let a = s .args in
+    rw (t .enum-told3 .given .1) (last-put (a .out .now) (a .at) _ (s .pre) _ _ _ (c .past2 .ensures) (w .write-last2 .ensures))
+
+returns-5 : tie.Need-returns-5
+returns-5 c =
+    let w = c .before .before .before in
+    let t = w .before .before .before in
+    let s = t .before .before .before in
+    let a = s .args in
+    rw (t .stop .given .1) (last-put (a .out .now) (a .at) _ (s .pre) _ _ _ (c .past3 .ensures) (w .write-last3 .ensures))
+
+pub put-ending-spec : {M : Type 1} → statement M
+put-ending-spec =
+    tie.close
+    (tie.spec (λ c. search needs) (λ c. search needs) (λ c κs. search needs) (λ c κs. search needs) (λ c. search needs) returns
+    (λ c. search needs) (λ c κs. search needs) (λ c κs. search needs) (λ c. search needs) (λ c κs. search needs) (λ c κs. search needs)
+    returns-2 returns-3 (λ c. search needs) returns-4 (λ c. search needs) returns-5)

@@ -1,0 +1,84 @@
+-- The replay program on the bytes at hand: its window, its lines, one turn. Document 01, "The replay program".
+use Prim.Native.Nat.{ℕ, zero, suc, _-_, _/_, min}
+use mathlib.Core.Path.{_≡_}
+use mathlib.Core.Bool.{Bool, true, false}
+use mathlib.Core.List.{List, [], _∷_, _++_}
+use lib.Dec.{ltb}
+use lib.ListN.{length, take, drop}
+use lib.IntN.{ℤ, pos}
+use Rattle.state.specs.declared.Reader.{Reader}
+use Rattle.many.specs.Many.{
+  Seen,
+  Halt,
+  isFull,
+  wantsMore,
+  finishes,
+  isRefused,
+  Run,
+  calls,
+  rowsFrom,
+  tensFrom,
+  room,
+}
+use Rattle.lines.specs.Lines.{lineOf, lastLine, plainLine, refusedWord, longest}
+use Rattle.lines.specs.declared.Ending.the-variants.{Finish, TooLong}
+use Rattle.replayer.specs.declared.Turned.{Turned}
+
+-- ---- the window
+
+abbrev pub full : ℕ
+full = 65536
+
+-- of the bytes from the reader's place on
+abbrev pub windowOf : List ℕ → List ℕ
+windowOf bytes = take full bytes
+
+-- only a shorter window can be the last
+abbrev pub isLast : List ℕ → Bool
+isLast bytes = ltb (length bytes) full
+
+-- ---- the text
+
+-- a line for each event
+unfoldable pub textOf : List Seen → List ℕ
+textOf [] = []
+textOf (x ∷ xs) = lineOf (x .event) (x .input) ++ textOf xs
+
+-- whether calls on a window end the replay, by why they stopped and how many events they gave: too long, where a full window answers
+-- more at once
+abbrev pub ends : Halt → ℕ → Bool
+ends isFull n = false
+ends wantsMore zero = true
+ends wantsMore (suc n) = false
+ends finishes n = true
+ends (isRefused k vs) n = true
+
+-- the last line, if they do
+abbrev pub endingOf : Halt → ℕ → List ℕ
+endingOf isFull n = []
+endingOf wantsMore zero = lastLine TooLong
+endingOf wantsMore (suc n) = []
+endingOf finishes n = lastLine Finish
+endingOf (isRefused k vs) n = plainLine refusedWord (pos k ∷ [])
+
+abbrev pub runText : Run → List ℕ
+runText run = textOf (run .seen) ++ endingOf (run .halt) (length (run .seen))
+
+-- ---- a turn
+
+-- for how many events there is room, where each line and a last one are at their longest
+abbrev pub turnRoom : List ℤ → List ℤ → List ℕ → ℕ
+turnRoom rows tens out = min (room rows tens) ((length out - longest) / longest)
+
+abbrev pub turnRun : ℕ → Reader → List ℕ → Run
+turnRun n reader bytes = calls n reader (windowOf bytes) (isLast bytes)
+
+-- the turn is a run's: its text stands in front of the target, and the rest of the target stays; the rows and the tens are the run's
+pub record Turns (run : Run) (rows₀ tens₀ : List ℤ) (out₀ : List ℕ) (r : Turned) (rows₁ tens₁ : List ℤ) (out₁ : List ℕ) : Type 0 where
+  pub left : r .reader ≡ run .reader
+  pub used : r .used ≡ run .used
+  pub filled : r .filled ≡ length (runText run)
+  pub ended : r .ended ≡ ends (run .halt) (length (run .seen))
+  pub out : out₁ ≡ runText run ++ drop (length (runText run)) out₀
+  pub rows : rows₁ ≡ rowsFrom 0 (run .seen) rows₀
+  pub tens : tens₁ ≡ tensFrom 0 (run .seen) tens₀

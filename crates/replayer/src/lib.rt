@@ -1,0 +1,225 @@
+// The replay program's work: reading calls on the bytes at hand, and the lines of their events.
+ghost use mathlib.Core.Path.{_≡_};
+ghost use Prim.Native.Nat.{_+_, _*_, _-_, _/_, _≤_, min};
+ghost use lib.ListN.{length, take, drop};
+ghost use Rattle.lines.specs.Lines.{
+  inputWord,
+  longest,
+  Puts,
+  plainLine,
+  plainMost,
+  textAnswer,
+  textTarget,
+  lineAnswer,
+  lineTarget,
+};
+ghost use Rattle.many.specs.Many.{haltOf};
+ghost use Rattle.replayer.specs.Replay.{endingOf, ends, turnRoom, turnRun, Turns};
+ghost use Rattle.replayer.specs.Rows.{pastOr, cidTold, clientAnd, recordTold, PutsLine, PutsLines};
+use item::Cid;
+use lines::Ending;
+use many::Stop;
+use state::Reader;
+use varint::Wrote;
+
+const FULL: usize = 65536;
+
+const LONGEST: usize = 138;
+
+// What a turn leaves: the reader, the bytes used, the bytes of text, and whether the text ends with the last line.
+pub struct Turned {
+    pub reader: Reader,
+    pub used: usize,
+    pub filled: usize,
+    pub ended: bool,
+}
+
+// The place past what was written, else the place itself.
+fn past(wrote: Wrote, at: usize) -> usize
+    ensures { λ r. ⌜ r ≡ pastOr wrote at ⌝ }
+{
+    match wrote {
+        Wrote::Past(next) => next,
+        Wrote::Refused(_) => at,
+    }
+}
+
+// A word and the numbers from a place of the rows to another.
+fn put_part(word: &[u8], rows: &[i32], from: usize, to: usize, out: &mut [u8], at: usize) -> usize
+    requires { ⌜ (from ≤ to) × (to ≤ length (now rows)) ⌝ }
+    ensures { λ r. ⌜ r ≡ pastOr (textAnswer (plainMost (now (word .entry)) (take (to - from) (drop from (now (rows .entry))))) (now (out .entry)) at (plainLine (now (word .entry)) (take (to - from) (drop from (now (rows .entry)))))) at ⌝ }
+    ensures { λ r. ⌜ now (out .exit) ≡ textTarget (plainMost (now (word .entry)) (take (to - from) (drop from (now (rows .entry))))) (now (out .entry)) at (plainLine (now (word .entry)) (take (to - from) (drop from (now (rows .entry))))) ⌝ }
+{
+    past(lines::write_plain(word, &rows[from..to], out, at), at)
+}
+
+// The line of an input whose client stands at a place of the rows, and whose ten numbers at a place of the tens.
+fn put_input(
+    rows: &[i32],
+    first: usize,
+    tens: &[i32],
+    from: usize,
+    out: &mut [u8],
+    at: usize,
+) -> usize
+    requires { ⌜ (first + 1 ≤ length (now rows)) × (from + 10 ≤ length (now tens)) ⌝ }
+    ensures { λ r. ⌜ r ≡ pastOr (textAnswer (plainMost inputWord (clientAnd (now (rows .entry)) first (now (tens .entry)) from)) (now (out .entry)) at (plainLine inputWord (clientAnd (now (rows .entry)) first (now (tens .entry)) from))) at ⌝ }
+    ensures { λ r. ⌜ now (out .exit) ≡ textTarget (plainMost inputWord (clientAnd (now (rows .entry)) first (now (tens .entry)) from)) (now (out .entry)) at (plainLine inputWord (clientAnd (now (rows .entry)) first (now (tens .entry)) from)) ⌝ }
+{
+    let to = from + 10;
+    past(
+        lines::write_input(rows[first], &tens[from..to], out, at),
+        at,
+    )
+}
+
+// The client of which two numbers tell: whether there is one, and its number.
+fn cid_of(has: i32, client: i32) -> Cid
+    ensures { λ r. ⌜ r ≡ cidTold has client ⌝ }
+{
+    if has == 1 {
+        return Cid::Of(client);
+    }
+    Cid::NoCid
+}
+
+// The line of a record whose kind's number and client stand at a place of the rows.
+fn put_record(rows: &[i32], first: usize, out: &mut [u8], at: usize) -> usize
+    requires { ⌜ first + 3 ≤ length (now rows) ⌝ }
+    ensures { λ r. ⌜ r ≡ pastOr (lineAnswer (now (out .entry)) at (recordTold (now (rows .entry)) first)) at ⌝ }
+    ensures { λ r. ⌜ now (out .exit) ≡ lineTarget (now (out .entry)) at (recordTold (now (rows .entry)) first) ⌝ }
+{
+    let cid = cid_of(rows[first + 1], rows[first + 2]);
+    past(lines::write_record(rows[first], cid, out, at), at)
+}
+
+// The line of event i, from its row and its ten numbers: the place past it.
+fn put_row(rows: &[i32], tens: &[i32], i: usize, out: &mut [u8], at: usize) -> usize
+    requires { ⌜ (8 * i + 8 ≤ length (now rows)) × (20 * i + 20 ≤ length (now tens)) ⌝ }
+    ensures { λ r. ⌜ PutsLine (now (rows .entry)) (now (tens .entry)) i (now (out .entry)) at r (now (out .exit)) ⌝ }
+{
+    let event = rows[8 * i];
+    let first = 8 * i + 2;
+    match event {
+        1 => put_part(b"start", rows, first, first + 1, out, at),
+        2 => put_part(b"end", rows, first, first + 1, out, at),
+        3 => put_part(b"new", rows, first, first + 3, out, at),
+        4 => put_part(b"change", rows, first, first + 5, out, at),
+        5 => put_part(b"old", rows, first, first + 3, out, at),
+        6 => put_input(rows, first, tens, 20 * i, out, at),
+        _ => put_record(rows, first, out, at),
+    }
+}
+
+// The lines of so many events, one behind the other: the place past them.
+fn put_rows(rows: &[i32], tens: &[i32], count: usize, out: &mut [u8]) -> usize
+    requires { ⌜ (8 * count ≤ length (now rows)) × (20 * count ≤ length (now tens)) ⌝ }
+    ensures { λ r. ⌜ PutsLines (now (rows .entry)) (now (tens .entry)) count (now (out .entry)) r (now (out .exit)) ⌝ }
+{
+    let mut i = 0;
+    let mut at = 0;
+    while i < count {
+        at = put_row(rows, tens, i, out, at);
+        i += 1;
+    }
+    at
+}
+
+// The last line, if there is one: the place past it.
+fn put_ending(stop: Stop, count: usize, out: &mut [u8], at: usize) -> usize
+    requires { ⌜ at + longest ≤ length (now out) ⌝ }
+    ensures { λ r. ⌜ Puts (now (out .entry)) at (endingOf (haltOf stop) count) r (now (out .exit)) ⌝ }
+{
+    match stop {
+        Stop::Full => at,
+        Stop::More => {
+            if count == 0 {
+                return past(lines::write_last(Ending::TooLong, out, at), at);
+            }
+            at
+        }
+        Stop::Finish => past(lines::write_last(Ending::Finish, out, at), at),
+        Stop::Refused(refusal) => past(lines::write_last(Ending::Refused(refusal), out, at), at),
+    }
+}
+
+// Whether there is one.
+fn has_ending(stop: Stop, count: usize) -> bool
+    ensures { λ r. ⌜ r ≡ ends (haltOf stop) count ⌝ }
+{
+    match stop {
+        Stop::Full => false,
+        Stop::More => count == 0,
+        Stop::Finish => true,
+        Stop::Refused(_) => true,
+    }
+}
+
+fn least(a: usize, b: usize) -> usize
+    ensures { λ r. ⌜ r ≡ min a b ⌝ }
+{
+    if a < b {
+        return a;
+    }
+    b
+}
+
+// For how many lines there is room, besides a last one.
+fn line_room(out: usize) -> usize
+    ensures { λ r. ⌜ r ≡ (out - longest) / longest ⌝ }
+{
+    if out < LONGEST {
+        return 0;
+    }
+    (out - LONGEST) / LONGEST
+}
+
+// For how many events there is room.
+fn event_room(rows: usize, tens: usize, out: usize) -> usize
+    ensures { λ r. ⌜ r ≡ min (min (rows / 8) (tens / 20)) ((out - longest) / longest) ⌝ }
+{
+    least(least(rows / 8, tens / 20), line_room(out))
+}
+
+// Many reading calls on the window at the front of the bytes, as many as there is room for, and their lines into the target. The bytes
+// are all that are at hand from the reader's place on: fewer than a full window only where no more come.
+pub fn turn(
+    reader: Reader,
+    bytes: &[u8],
+    rows: &mut [i32],
+    tens: &mut [i32],
+    out: &mut [u8],
+) -> Turned
+    ensures { λ r. ⌜ Turns (turnRun (turnRoom (now (rows .entry)) (now (tens .entry)) (now (out .entry))) reader (now (bytes .entry))) (now (rows .entry)) (now (tens .entry)) (now (out .entry)) r (now (rows .exit)) (now (tens .exit)) (now (out .exit)) ⌝ }
+{
+    let n = event_room(rows.len(), tens.len(), out.len());
+    if n == 0 {
+        return Turned {
+            reader,
+            used: 0,
+            filled: 0,
+            ended: false,
+        };
+    }
+    let end = least(bytes.len(), FULL);
+    let last = bytes.len() < FULL;
+    let row_end = 8 * n;
+    let ten_end = 20 * n;
+    let many = many::read_many(
+        reader,
+        &bytes[..end],
+        last,
+        &mut rows[..row_end],
+        &mut tens[..ten_end],
+    );
+    let stop = many.stop;
+    let count = many.count;
+    let left = many.reader;
+    let at = put_rows(rows, tens, count, out);
+    Turned {
+        reader: left,
+        used: many.used,
+        filled: put_ending(stop, count, out, at),
+        ended: has_ending(stop, count),
+    }
+}
