@@ -6,20 +6,9 @@ use oracle::run::Run;
 use std::hint::black_box;
 use std::io;
 
-/// How many events the proved reader reads in one call.
-const ROOM: usize = 4096;
-
 extern "C" {
     fn jolzerv_count_each(second: bool, body: *const u8, length: usize) -> u64;
-    fn jolzerv_count_many(
-        second: bool,
-        body: *const u8,
-        length: usize,
-        rows: *mut i32,
-        rows_length: usize,
-        tens: *mut i32,
-        tens_length: usize,
-    ) -> u64;
+    fn jolzerv_count_many(second: bool, body: *const u8, length: usize) -> u64;
 }
 
 pub fn libtw2(version: u8, body: &[u8]) -> io::Result<u64> {
@@ -41,18 +30,6 @@ pub fn each(version: u8, body: &[u8]) -> io::Result<u64> {
 
 /// The proved reader, many events a call.
 pub fn many(version: u8, body: &[u8]) -> io::Result<u64> {
-    let mut rows = vec![0; 8 * ROOM];
-    let mut tens = vec![0; 20 * ROOM];
-    // SAFETY: a pointer and a length for each of three slices, which do not overlap
-    Ok(unsafe {
-        jolzerv_count_many(
-            version == 2,
-            body.as_ptr(),
-            body.len(),
-            rows.as_mut_ptr(),
-            rows.len(),
-            tens.as_mut_ptr(),
-            tens.len(),
-        )
-    })
+    // SAFETY: a pointer and a length of one slice, which the call only reads
+    Ok(unsafe { jolzerv_count_many(version == 2, body.as_ptr(), body.len()) })
 }
