@@ -1,3 +1,2 @@
-pub mod Keys
 pub mod Payloads
 pub mod Held

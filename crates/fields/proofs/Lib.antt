@@ -7,3 +7,5 @@ pub mod Back
 pub mod Theorems
 pub mod Arguments
 pub mod Inputs
+pub mod Passed
+pub mod Appended

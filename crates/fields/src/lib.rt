@@ -83,6 +83,45 @@ pub fn read_args(s: &[u8], at: usize) -> ArgsRead
     read_strings(s, next, value as usize)
 }
 
+// The place past n strings, byte by byte: the strings themselves are not kept.
+fn skip_strings(s: &[u8], at: usize, n: usize) -> ArgsAnswer
+    ensures { λ r. ⌜ r ≡ argsRead (argsFrom n (now (s .entry)) [] at) .answer ⌝ }
+{
+    let mut i = at;
+    let mut passed: usize = 0;
+    while passed < n {
+        if s.len() <= i {
+            return ArgsAnswer::RunsOut;
+        }
+        if s[i] == 0 {
+            if passed == 16 {
+                return ArgsAnswer::Refused(Refusal::NumArgsTooLarge);
+            }
+            passed += 1;
+        }
+        i += 1;
+    }
+    ArgsAnswer::Got(i)
+}
+
+// The arguments where only the place past them is wanted.
+pub fn skip_args(s: &[u8], at: usize) -> ArgsAnswer
+    ensures { λ r. ⌜ r ≡ argsRead (fieldParts (readField args (now (s .entry)) at)) .answer ⌝ }
+{
+    let IntRead::Got {
+        value,
+        next,
+        remark: _,
+    } = varint::read_int(s, at)
+    else {
+        return ArgsAnswer::RunsOut;
+    };
+    if value < 0 {
+        return ArgsAnswer::Refused(Refusal::NegativeNumArgs);
+    }
+    skip_strings(s, next, value as usize)
+}
+
 // The client of an input and the place past its numbers.
 pub enum InputAnswer {
     Got { cid: i32, next: usize },

@@ -15,11 +15,11 @@ use Rattle.ids.specs.Table.{rows, table, rowAt}
 use Rattle.ids.proofs.Same.{same-true}
 
 -- the test passes at each number below n
-abbrev below : (ℕ → Bool) → ℕ → Bool
+abbrev pub below : (ℕ → Bool) → ℕ → Bool
 below f zero = true
 below f (suc n) = f n && below f n
 
-at : (f : ℕ → Bool) (n k : ℕ) → k < n → below f n ≡ true → f k ≡ true
+pub at : (f : ℕ → Bool) (n k : ℕ) → k < n → below f n ≡ true → f k ≡ true
 at f zero k h e = absurd (omega arith)
 at f (suc n) k h e =
     let b = and-eq-true-iff (f n) (below f n) .0 e in

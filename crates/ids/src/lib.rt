@@ -1,375 +1,92 @@
 // The identifiers of the extensions and the magic, and finding them in a window.
 ghost use mathlib.Core.Path.{_≡_};
-ghost use Prim.Native.Nat.{_+_, _≤_, _<_};
+ghost use Prim.Native.Nat.{_+_, _-_, _/_, _%_, _^_, _≤_, _<_};
 ghost use lib.ListN.{length, take, drop, getD};
 ghost use Rattle.packer.specs.Parts.{shown};
 ghost use Rattle.shapes.specs.Shapes.{idPart};
 ghost use Rattle.item.specs.Extensions.{same, find};
 ghost use Rattle.item.specs.Magic.{readMagic};
-ghost use Rattle.ids.specs.Table.{table, rowAt};
+ghost use Rattle.ids.specs.Table.{table, rowAt, number};
 use item::MagicRead;
 use refusal::Refusal;
 
-// The constants of item.rs in the order of document 01, 16 bytes each, then the magic of mod.rs.
-const TABLE: [u8; 336] = [
-    // Antibot
-    0x86,
-    0x6b,
-    0xfd,
-    0xac,
-    0xfb,
-    0x49,
-    0x3c,
-    0x0b,
-    0xa8,
-    0x87,
-    0x5f,
-    0xe1,
-    0xf3,
-    0xea,
-    0x00,
-    0xb8,
-    // AuthInit
-    0x60,
-    0xda,
-    0xba,
-    0x5c,
-    0x52,
-    0xc4,
-    0x3a,
-    0xeb,
-    0xb8,
-    0xba,
-    0xb2,
-    0x95,
-    0x3f,
-    0xb5,
-    0x5a,
-    0x17,
-    // AuthLogin
-    0x37,
-    0xec,
-    0xd3,
-    0xb8,
-    0x92,
-    0x18,
-    0x3b,
-    0xb9,
-    0xa7,
-    0x1b,
-    0xa9,
-    0x35,
-    0xb8,
-    0x6f,
-    0x6a,
-    0x81,
-    // AuthLogout
-    0xd4,
-    0xf5,
-    0xab,
-    0xe8,
-    0xed,
-    0xd2,
-    0x3f,
-    0xb9,
-    0xab,
-    0xd8,
-    0x1c,
-    0x8b,
-    0xb8,
-    0x4f,
-    0x4a,
-    0x63,
-    // Ddnetver
-    0x13,
-    0x97,
-    0xb6,
-    0x3e,
-    0xee,
-    0x4e,
-    0x39,
-    0x19,
-    0xb8,
-    0x6a,
-    0xb0,
-    0x58,
-    0x88,
-    0x7f,
-    0xca,
-    0xf5,
-    // DdnetverOld
-    0x41,
-    0xb4,
-    0x95,
-    0x41,
-    0xf2,
-    0x6f,
-    0x32,
-    0x5d,
-    0x87,
-    0x15,
-    0x9b,
-    0xaf,
-    0x4b,
-    0x54,
-    0x4e,
-    0xf9,
-    // Joinver6
-    0x18,
-    0x99,
-    0xa3,
-    0x82,
-    0x71,
-    0xe3,
-    0x36,
-    0xda,
-    0x93,
-    0x7d,
-    0xc9,
-    0xde,
-    0x6b,
-    0xb9,
-    0x5b,
-    0x1d,
-    // Joinver7
-    0x59,
-    0x23,
-    0x9b,
-    0x05,
-    0x05,
-    0x40,
-    0x31,
-    0x8d,
-    0xbe,
-    0xa4,
-    0x9a,
-    0xa1,
-    0xe8,
-    0x0e,
-    0x7d,
-    0x2b,
-    // PlayerFinish
-    0x68,
-    0x94,
-    0x3c,
-    0x01,
-    0x23,
-    0x48,
-    0x3e,
-    0x01,
-    0x94,
-    0x90,
-    0x3f,
-    0x27,
-    0xf8,
-    0x26,
-    0x9d,
-    0x94,
-    // PlayerName
-    0xd0,
-    0x16,
-    0xf9,
-    0xb9,
-    0x41,
-    0x51,
-    0x3b,
-    0x87,
-    0x87,
-    0xe5,
-    0x3a,
-    0x60,
-    0x87,
-    0xeb,
-    0x5f,
-    0x26,
-    // PlayerReady
-    0x63,
-    0x85,
-    0x87,
-    0xc9,
-    0x3f,
-    0x75,
-    0x38,
-    0x87,
-    0x91,
-    0x8e,
-    0xa3,
-    0xc2,
-    0x61,
-    0x4f,
-    0xfa,
-    0xa0,
-    // PlayerRejoin
-    0xc1,
-    0xe9,
-    0x21,
-    0xd5,
-    0x96,
-    0xf5,
-    0x37,
-    0xbb,
-    0x8a,
-    0x45,
-    0x7a,
-    0x06,
-    0xf1,
-    0x63,
-    0xd2,
-    0x7e,
-    // PlayerSwap
-    0x5d,
-    0xe9,
-    0xb6,
-    0x33,
-    0x49,
-    0xcf,
-    0x3e,
-    0x99,
-    0x9a,
-    0x25,
-    0xd4,
-    0xa7,
-    0x8e,
-    0x97,
-    0x17,
-    0xd7,
-    // PlayerTeam
-    0xa1,
-    0x11,
-    0xc0,
-    0x4e,
-    0x1e,
-    0xa8,
-    0x38,
-    0xe0,
-    0x90,
-    0xb1,
-    0xd7,
-    0xf9,
-    0x93,
-    0xca,
-    0x0d,
-    0xa9,
-    // TeamFinish
-    0x95,
-    0x88,
-    0xb9,
-    0xaf,
-    0x3f,
-    0xdc,
-    0x37,
-    0x60,
-    0x80,
-    0x43,
-    0x82,
-    0xde,
-    0xee,
-    0xe3,
-    0x17,
-    0xa5,
-    // TeamLoadFailure
-    0xef,
-    0x89,
-    0x05,
-    0xa2,
-    0xc6,
-    0x95,
-    0x35,
-    0x91,
-    0xa1,
-    0xcd,
-    0x53,
-    0xd2,
-    0x01,
-    0x59,
-    0x92,
-    0xdd,
-    // TeamLoadSuccess
-    0xe0,
-    0x54,
-    0x08,
-    0xd3,
-    0xa3,
-    0x13,
-    0x33,
-    0xdf,
-    0x9e,
-    0xb3,
-    0xdd,
-    0xb9,
-    0x90,
-    0xab,
-    0x95,
-    0x4a,
-    // TeamPractice
-    0x57,
-    0x92,
-    0x83,
-    0x4e,
-    0x81,
-    0xd1,
-    0x34,
-    0xc9,
-    0xa2,
-    0x9b,
-    0xb5,
-    0xff,
-    0x25,
-    0xda,
-    0xc3,
-    0xbc,
-    // TeamSaveFailure
-    0xb2,
-    0x99,
-    0x01,
-    0xd5,
-    0x12,
-    0x44,
-    0x3b,
-    0xd0,
-    0xbb,
-    0xde,
-    0x23,
-    0xd0,
-    0x4b,
-    0x1f,
-    0x7b,
-    0xa9,
-    // TeamSaveSuccess
-    0x45,
-    0x60,
-    0xc7,
-    0x56,
-    0xda,
-    0x29,
-    0x30,
-    0x36,
-    0x81,
-    0xd4,
-    0x90,
-    0xa5,
-    0x0f,
-    0x01,
-    0x82,
-    0xcd,
-    // the magic
-    0x69,
-    0x9d,
-    0xb1,
-    0x7b,
-    0x8e,
-    0xfb,
-    0x34,
-    0xff,
-    0xb1,
-    0xd8,
-    0xda,
-    0x6f,
-    0x60,
-    0xc1,
-    0x5d,
-    0xd1,
-];
+// The table: the constants of item.rs in the order of document 01, then the magic of mod.rs, 16 bytes each. The first eight bytes of
+// row k as a number, which is compared at once; an array would be copied wherever it is used.
+fn first_half(k: usize) -> u64
+    ensures { λ r. ⌜ r ≡ number 0 (take 8 (rowAt k)) ⌝ }
+{
+    match k {
+        0 => 0x866bfdacfb493c0b, // Antibot
+        1 => 0x60daba5c52c43aeb, // AuthInit
+        2 => 0x37ecd3b892183bb9, // AuthLogin
+        3 => 0xd4f5abe8edd23fb9, // AuthLogout
+        4 => 0x1397b63eee4e3919, // Ddnetver
+        5 => 0x41b49541f26f325d, // DdnetverOld
+        6 => 0x1899a38271e336da, // Joinver6
+        7 => 0x59239b050540318d, // Joinver7
+        8 => 0x68943c0123483e01, // PlayerFinish
+        9 => 0xd016f9b941513b87, // PlayerName
+        10 => 0x638587c93f753887, // PlayerReady
+        11 => 0xc1e921d596f537bb, // PlayerRejoin
+        12 => 0x5de9b63349cf3e99, // PlayerSwap
+        13 => 0xa111c04e1ea838e0, // PlayerTeam
+        14 => 0x9588b9af3fdc3760, // TeamFinish
+        15 => 0xef8905a2c6953591, // TeamLoadFailure
+        16 => 0xe05408d3a31333df, // TeamLoadSuccess
+        17 => 0x5792834e81d134c9, // TeamPractice
+        18 => 0xb29901d512443bd0, // TeamSaveFailure
+        19 => 0x4560c756da293036, // TeamSaveSuccess
+        20 => 0x699db17b8efb34ff, // the magic
+        _ => 0,
+    }
+}
+
+// The last eight bytes of row k.
+fn second_half(k: usize) -> u64
+    ensures { λ r. ⌜ r ≡ number 0 (drop 8 (rowAt k)) ⌝ }
+{
+    match k {
+        0 => 0xa8875fe1f3ea00b8,
+        1 => 0xb8bab2953fb55a17,
+        2 => 0xa71ba935b86f6a81,
+        3 => 0xabd81c8bb84f4a63,
+        4 => 0xb86ab058887fcaf5,
+        5 => 0x87159baf4b544ef9,
+        6 => 0x937dc9de6bb95b1d,
+        7 => 0xbea49aa1e80e7d2b,
+        8 => 0x94903f27f8269d94,
+        9 => 0x87e53a6087eb5f26,
+        10 => 0x918ea3c2614ffaa0,
+        11 => 0x8a457a06f163d27e,
+        12 => 0x9a25d4a78e9717d7,
+        13 => 0x90b1d7f993ca0da9,
+        14 => 0x804382deeee317a5,
+        15 => 0xa1cd53d2015992dd,
+        16 => 0x9eb3ddb990ab954a,
+        17 => 0xa29bb5ff25dac3bc,
+        18 => 0xbbde23d04b1f7ba9,
+        19 => 0x81d490a50f0182cd,
+        20 => 0xb1d8da6f60c15dd1,
+        _ => 0,
+    }
+}
+
+// Byte j of the eight.
+fn byte_of(half: u64, j: usize) -> u8
+    requires { ⌜ j < 8 ⌝ }
+    ensures { λ r. ⌜ r ≡ half / 256 ^ (7 - j) % 256 ⌝ }
+{
+    match j {
+        0 => (half / 72057594037927936 % 256) as u8,
+        1 => (half / 281474976710656 % 256) as u8,
+        2 => (half / 1099511627776 % 256) as u8,
+        3 => (half / 4294967296 % 256) as u8,
+        4 => (half / 16777216 % 256) as u8,
+        5 => (half / 65536 % 256) as u8,
+        6 => (half / 256 % 256) as u8,
+        _ => (half % 256) as u8,
+    }
+}
 
 // A byte of the table: byte i % 16 of row i / 16; 0 past its end.
 pub fn table_byte(i: usize) -> u8
@@ -378,7 +95,34 @@ pub fn table_byte(i: usize) -> u8
     if 336 <= i {
         return 0;
     }
-    TABLE[i]
+    let k = i / 16;
+    let j = i % 16;
+    if j < 8 {
+        return byte_of(first_half(k), j);
+    }
+    byte_of(second_half(k), j - 8)
+}
+
+fn wide(b: u8) -> u64
+    ensures { λ r. ⌜ (r ≡ b) × (r < 256) ⌝ }
+{
+    b as u64
+}
+
+// Four bytes at a place, as a number.
+fn quad(s: &[u8], at: usize) -> u64
+    requires { ⌜ at + 4 ≤ length (now s) ⌝ }
+    ensures { λ r. ⌜ (r ≡ number 0 (take 4 (drop at (now (s .entry))))) × (r < 4294967296) ⌝ }
+{
+    ((wide(s[at]) * 256 + wide(s[at + 1])) * 256 + wide(s[at + 2])) * 256 + wide(s[at + 3])
+}
+
+// Eight bytes at a place, as a number.
+fn word(s: &[u8], at: usize) -> u64
+    requires { ⌜ at + 8 ≤ length (now s) ⌝ }
+    ensures { λ r. ⌜ r ≡ number 0 (take 8 (drop at (now (s .entry)))) ⌝ }
+{
+    quad(s, at) * 4294967296 + quad(s, at + 4)
 }
 
 // Whether the 16 bytes at a place are row k.
@@ -386,15 +130,10 @@ fn same_row(s: &[u8], at: usize, k: usize) -> bool
     requires { ⌜ (at + 16 ≤ length (now s)) × (k < 21) ⌝ }
     ensures { λ r. ⌜ r ≡ same (take 16 (drop at (now (s .entry)))) (rowAt k) ⌝ }
 {
-    let base = k * 16;
-    let mut i = 0;
-    while i < 16 {
-        if s[at + i] != table_byte(base + i) {
-            return false;
-        }
-        i += 1;
+    if word(s, at) != first_half(k) {
+        return false;
     }
-    true
+    word(s, at + 8) == second_half(k)
 }
 
 // Which of the 20 extensions the 16 bytes at a place name; 20 if none, or if they reach outside the window.

@@ -1,19 +1,14 @@
--- A command: its arguments stand beside it. Assumes nothing.
+-- A command: its arguments stand beside it, or are passed over. Assumes nothing.
 use Prim.Native.Nat.{ℕ}
 use mathlib.Core.Path.{_≡_, refl, sym, _∙_, ap}
 use mathlib.Core.List.{List, [], _∷_}
 use lib.ListN.{take}
 use lib.Seq.{take-append-seam}
 use lib.IntN.{ℤ, pos, negsuc}
-use mir.Syntax.{w32}
-use mir.Val.{ofZ}
 use Rattle.varint.specs.Integers.{readInt}
-use Rattle.varint.specs.declared.Remark.{Remark}
 use Rattle.varint.specs.declared.IntRead.{IntRead}
 use Rattle.varint.specs.declared.IntRead.the-variants as ints
-use Rattle.packer.specs.Parts.{readString}
 use Rattle.packer.specs.declared.Part.{Part}
-use Rattle.packer.specs.declared.PartRead.the-variants as parts
 use Rattle.fields.specs.Fields.{
   args,
   Value,
@@ -33,13 +28,20 @@ use Rattle.fields.specs.Fields.{
   readFields,
 }
 use Rattle.fields.specs.Views.{zeros, argsWith, argsRead, fieldParts}
+use Rattle.fields.specs.declared.ArgsAnswer.{ArgsAnswer}
+use Rattle.fields.specs.declared.ArgsAnswer.the-variants as arguments
 use Rattle.fields.specs.declared.ArgsRead.{ArgsRead}
+use Rattle.fields.proofs.Appended.{joined, fields-joined}
 use Rattle.item.specs.Records.{Content, content, asContent, readRest}
-use Rattle.item.specs.Contents.{recordWith}
+use Rattle.item.specs.Contents.{ownFields, recordWith}
 use Rattle.item.specs.declared.Kind.the-variants as kinds
 use Rattle.item.specs.declared.Item.the-variants as records
 use Rattle.item.specs.declared.Tag.the-variants.{Plain}
-use Rattle.records.specs.Views.{commandRead, readIs, tidyAnswer, RestRead}
+use Rattle.records.specs.Views.{itemIs, own, headIs, commandRead, readIs, tidyAnswer, RestRead}
+use Rattle.records.specs.declared.ItemRead.{ItemRead}
+use Rattle.records.specs.declared.ItemRead.the-variants as items
+use Rattle.records.specs.declared.HeadRead.{HeadRead}
+use Rattle.records.specs.declared.HeadRead.the-variants as heads
 use Rattle.records.specs.declared.RecordRead.{RecordRead}
 
 -- ---- the arguments are several strings
@@ -80,33 +82,50 @@ module _ (cid : ℤ) (n : ℕ) (cmd : Part) where
   tidy runsOut = refl
   tidy (refused r) = refl
 
+  -- without them
+
+  abbrev pub itemAfter : ArgsAnswer → ItemRead
+  itemAfter (arguments.Got next) = items.Got (records.ConsoleCommand cid n cmd) next
+  itemAfter arguments.RunsOut = items.RunsOut
+  itemAfter (arguments.Refused r) = items.Refused r
+
+  own-before : (s : List ℕ) (z : Reading (List Part)) → itemIs (itemAfter (argsRead z .answer)) ≡ own (before s (asStrings z))
+  own-before s (got ps next) = refl
+  own-before s runsOut = refl
+  own-before s (refused r) = refl
+
 -- ---- the record in the window
 
-module _ (s : List ℕ) (at : ℕ) where
-  pub no-cid : readInt s at ≡ ints.RunsOut → runsOut ≡ readRest kinds.ConsoleCommand s at
+abbrev afterHead : List ℕ → HeadRead → Reading (Content Part)
+afterHead s (heads.Got cid n cmd next) = before cid n cmd s (readField args s next)
+afterHead s heads.RunsOut = runsOut
+
+module _ (s : List ℕ) (at : ℕ) (h : HeadRead) (is : headIs h ≡ readFields (ownFields (Plain kinds.ConsoleCommand)) s at) where
+  head-joined : (x : HeadRead) → afterHead s x ≡ asContent (Plain kinds.ConsoleCommand) (joined (headIs x) (readFields (args ∷ []) s))
+  head-joined (heads.Got cid n cmd next) = refl
+  head-joined heads.RunsOut = refl
+
+  head-rest : (x : HeadRead) → h ≡ x → afterHead s x ≡ readRest kinds.ConsoleCommand s at
   unfolding readRest
-  no-cid e = rw e
+  head-rest x e =
+      head-joined x
+      ∙ ap (λ (y : Reading (List (Value Part))). asContent (Plain kinds.ConsoleCommand) (joined y (readFields (args ∷ []) s))) (ap headIs (sym e) ∙ is)
+      ∙ ap (asContent (Plain kinds.ConsoleCommand)) (sym (fields-joined (ownFields (Plain kinds.ConsoleCommand)) (args ∷ []) s at))
 
-  module _ (cid : ℤ) (at-mask : ℕ) (r : Remark) (c : readInt s at ≡ ints.Got cid at-mask r) where
-    pub no-mask : readInt s at-mask ≡ ints.RunsOut → runsOut ≡ readRest kinds.ConsoleCommand s at
-    unfolding readRest
-    no-mask e = rw (c, e)
+  pub no-head : h ≡ heads.RunsOut → runsOut ≡ readRest kinds.ConsoleCommand s at
+  no-head e = head-rest heads.RunsOut e
 
-    module _ (mask : ℤ) (at-cmd : ℕ) (q : Remark) (m : readInt s at-mask ≡ ints.Got mask at-cmd q) where
-      pub no-cmd : readString s at-cmd ≡ parts.RunsOut → runsOut ≡ readRest kinds.ConsoleCommand s at
-      unfolding readRest
-      no-cmd e = rw (c, m, e)
+  module _ (cid : ℤ) (n : ℕ) (cmd : Part) (next : ℕ) (e : h ≡ heads.Got cid n cmd next) where
+    abbrev given : Reading (List Part)
+    given = fieldParts (readField args s next)
 
-      pub command-rest : (cmd : Part) (at-args : ℕ) → readString s at-cmd ≡ parts.Got cmd at-args → (x : ArgsRead)
-          → x ≡ argsRead (fieldParts (readField args s at-args))
-          → RestRead kinds.ConsoleCommand s at (commandRead (x .answer) (records.ConsoleCommand cid (ofZ w32 mask) cmd) (x .args))
-      unfolding readRest
-      command-rest cmd at-args e x h =
-          let z = fieldParts (readField args s at-args) in
-          rw h (record {
-            values =
-                values cid (ofZ w32 mask) cmd s z
-                ∙ ap (before cid (ofZ w32 mask) cmd s) (sym (args-again s (readInt s at-args)))
-                ∙ rw (c, m, e);
-            tidy = tidy cid (ofZ w32 mask) cmd z;
-          })
+    behind : before cid n cmd s (asStrings given) ≡ readRest kinds.ConsoleCommand s at
+    behind = ap (before cid n cmd s) (sym (args-again s (readInt s next))) ∙ head-rest (heads.Got cid n cmd next) e
+
+    pub command-rest : (x : ArgsRead) → x ≡ argsRead given
+        → RestRead kinds.ConsoleCommand s at (commandRead (x .answer) (records.ConsoleCommand cid n cmd) (x .args))
+    command-rest x q = rw q (record { values = values cid n cmd s given ∙ behind; tidy = tidy cid n cmd given })
+
+    pub command-own : (x : ArgsAnswer) → x ≡ argsRead given .answer
+        → itemIs (itemAfter cid n cmd x) ≡ own (readRest kinds.ConsoleCommand s at)
+    command-own x q = rw q (own-before cid n cmd s given) ∙ ap own behind

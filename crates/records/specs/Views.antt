@@ -2,12 +2,12 @@
 use Prim.Native.Nat.{ℕ}
 use mathlib.Core.Path.{_≡_}
 use mathlib.Core.Bool.{Bool, true, false, cond}
-use mathlib.Core.List.{List}
-use lib.IntN.{ℤ}
+use mathlib.Core.List.{List, [], _∷_}
+use lib.IntN.{ℤ, pos}
 use lib.ListN.{length, take}
 use Rattle.refusal.specs.declared.Refusal.the-variants.{UnexpectedEnd}
 use Rattle.packer.specs.declared.Part.{Part}
-use Rattle.fields.specs.Fields.{Reading, got, runsOut, refused}
+use Rattle.fields.specs.Fields.{Value, num, bytes, Reading, got, runsOut, refused}
 use Rattle.fields.specs.Views.{zeros}
 use Rattle.fields.specs.declared.Args.{Args}
 use Rattle.fields.specs.declared.ArgsAnswer.{ArgsAnswer}
@@ -26,6 +26,8 @@ use Rattle.records.specs.declared.ItemRead.{ItemRead}
 use Rattle.records.specs.declared.ItemRead.the-variants as items
 use Rattle.records.specs.declared.Rest.{Rest}
 use Rattle.records.specs.declared.Rest.the-variants as rests
+use Rattle.records.specs.declared.HeadRead.{HeadRead}
+use Rattle.records.specs.declared.HeadRead.the-variants as heads
 use Rattle.records.specs.declared.RecordAnswer.{RecordAnswer}
 use Rattle.records.specs.declared.RecordAnswer.the-variants as answers
 use Rattle.records.specs.declared.RecordRead.{RecordRead}
@@ -84,6 +86,11 @@ recordRead a r = record { answer = a; value = r }
 
 abbrev pub alone : RecordAnswer → Item → RecordRead
 alone a i = recordRead a (recordWith i (zeros 10) noArgs)
+
+-- a command before its arguments
+abbrev pub headIs : HeadRead → Reading (List (Value Part))
+headIs (heads.Got cid flags cmd next) = got (num cid ∷ num (pos flags) ∷ bytes cmd ∷ []) next
+headIs heads.RunsOut = runsOut
 
 abbrev pub commandRead : ArgsAnswer → Item → Args → RecordRead
 commandRead (args.Got next) i xs = recordRead (answers.Got next) (recordWith i (zeros 10) xs)

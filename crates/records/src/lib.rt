@@ -1,9 +1,10 @@
 // Reading records (format/item.rs): the rest of a record of a kind, and the record call.
 ghost use mathlib.Core.Path.{_≡_};
 ghost use mathlib.Core.Bool.{true};
+ghost use Rattle.fields.specs.Fields.{readFields};
 ghost use Rattle.fields.specs.Views.{zeros};
 ghost use Rattle.item.specs.Records.{readEx, readRest};
-ghost use Rattle.item.specs.Contents.{itemOf, fromFields, recordWith, noArgs};
+ghost use Rattle.item.specs.Contents.{itemOf, ownFields, fromFields, recordWith, noArgs};
 ghost use Rattle.item.specs.declared.Tag.the-variants.{Plain};
 ghost use Rattle.records.specs.Views.{
   itemIs,
@@ -14,6 +15,7 @@ ghost use Rattle.records.specs.Views.{
   recordRead,
   inputKind,
   inputItem,
+  headIs,
   commandRead,
   wholeOf,
   saidOf,
@@ -237,9 +239,19 @@ fn command(answer: ArgsAnswer, item: Item, args: Args) -> RecordRead
     }
 }
 
-// ConsoleCommand: the arguments stand beside the record.
-fn read_console(s: &[u8], at: usize) -> RecordRead
-    ensures { λ r. ⌜ RestRead Kind.ConsoleCommand (now (s .entry)) at r ⌝ }
+// What a command holds before its arguments, and their place.
+pub enum HeadRead {
+    Got {
+        cid: i32,
+        flag_mask: u32,
+        cmd: Part,
+        next: usize,
+    },
+    RunsOut,
+}
+
+fn read_head(s: &[u8], at: usize) -> HeadRead
+    ensures { λ r. ⌜ headIs r ≡ readFields (ownFields (Plain Kind.ConsoleCommand)) (now (s .entry)) at ⌝ }
 {
     let IntRead::Got {
         value: cid,
@@ -247,7 +259,7 @@ fn read_console(s: &[u8], at: usize) -> RecordRead
         remark: _,
     } = varint::read_int(s, at)
     else {
-        return alone(RecordAnswer::RunsOut, Item::Finish);
+        return HeadRead::RunsOut;
     };
     let IntRead::Got {
         value: mask,
@@ -255,24 +267,69 @@ fn read_console(s: &[u8], at: usize) -> RecordRead
         remark: _,
     } = varint::read_int(s, at_mask)
     else {
-        return alone(RecordAnswer::RunsOut, Item::Finish);
+        return HeadRead::RunsOut;
     };
-    let PartRead::Got {
-        part: cmd,
-        next: at_args,
-    } = packer::read_string(s, at_cmd)
+    let PartRead::Got { part: cmd, next } = packer::read_string(s, at_cmd) else {
+        return HeadRead::RunsOut;
+    };
+    HeadRead::Got {
+        cid,
+        flag_mask: num::bits(mask),
+        cmd,
+        next,
+    }
+}
+
+// ConsoleCommand: the arguments stand beside the record.
+fn read_console(s: &[u8], at: usize) -> RecordRead
+    ensures { λ r. ⌜ RestRead Kind.ConsoleCommand (now (s .entry)) at r ⌝ }
+{
+    let HeadRead::Got {
+        cid,
+        flag_mask,
+        cmd,
+        next,
+    } = read_head(s, at)
     else {
         return alone(RecordAnswer::RunsOut, Item::Finish);
     };
-    let read = fields::read_args(s, at_args);
+    let read = fields::read_args(s, next);
     let answer = read.answer;
     let args = read.args;
     let item = Item::ConsoleCommand {
         cid,
-        flag_mask: num::bits(mask),
+        flag_mask,
         cmd,
     };
     command(answer, item, args)
+}
+
+// ConsoleCommand without its arguments.
+fn console_item(s: &[u8], at: usize) -> ItemRead
+    ensures { λ r. ⌜ itemIs r ≡ own (readRest Kind.ConsoleCommand (now (s .entry)) at) ⌝ }
+{
+    let HeadRead::Got {
+        cid,
+        flag_mask,
+        cmd,
+        next,
+    } = read_head(s, at)
+    else {
+        return ItemRead::RunsOut;
+    };
+    let answer = fields::skip_args(s, next);
+    match answer {
+        ArgsAnswer::Got(past) => ItemRead::Got {
+            item: Item::ConsoleCommand {
+                cid,
+                flag_mask,
+                cmd,
+            },
+            next: past,
+        },
+        ArgsAnswer::RunsOut => ItemRead::RunsOut,
+        ArgsAnswer::Refused(r) => ItemRead::Refused(r),
+    }
 }
 
 fn whole(read: ItemRead) -> RecordRead
@@ -322,7 +379,7 @@ pub fn read_item(kind: Kind, s: &[u8], at: usize) -> ItemRead
         Rest::Shaped(shape) => read_shaped(kind, shape, s, at),
         Rest::Dt => read_dt(s, at),
         Rest::Input(new) => item_of(read_input(new, s, at)),
-        Rest::Command => item_of(read_console(s, at)),
+        Rest::Command => console_item(s, at),
         Rest::Extension => read_ex(s, at),
     }
 }

@@ -16,6 +16,8 @@ use Rattle.shapes.specs.declared.Shape.the-variants.{Nothing, Int, IntIn
 use Rattle.shapes.specs.declared.Fields.{Fields}
 use Rattle.shapes.specs.declared.FieldsRead.{FieldsRead}
 use Rattle.shapes.specs.declared.FieldsRead.the-variants as code
+use Rattle.shapes.specs.declared.PairRead.{PairRead}
+use Rattle.shapes.specs.declared.PairRead.the-variants as pairs
 
 abbrev pub fieldsIn : Shape → List Field
 fieldsIn Nothing = []
@@ -101,3 +103,8 @@ tidied shape code.RunsOut = code.RunsOut
 pub record Read (shape : Shape) (s : List ℕ) (at : ℕ) (r : FieldsRead) : Type 0 where
   pub values : viewed shape r ≡ readFields (fieldsIn shape) s at
   pub blank : tidied shape r ≡ r
+
+-- two numbers
+abbrev pub pairIs : PairRead → Reading (List (Value Part))
+pairIs (pairs.Got x y next) = got (num x ∷ num y ∷ []) next
+pairIs pairs.RunsOut = runsOut

@@ -1,5 +1,7 @@
 // The field sequences that records share: each is read by one function.
-ghost use Rattle.shapes.specs.Shapes.{Read};
+ghost use mathlib.Core.Path.{_≡_};
+ghost use Rattle.fields.specs.Fields.{readFields};
+ghost use Rattle.shapes.specs.Shapes.{fieldsIn, pairIs, Read};
 use packer::Part;
 use packer::PartRead;
 use varint::IntRead;
@@ -29,6 +31,16 @@ pub enum FieldsRead {
     RunsOut,
 }
 
+// Two numbers and the place past them. It is smaller than FieldsRead: most records hold no more.
+pub enum PairRead {
+    Got {
+        first: i32,
+        second: i32,
+        next: usize,
+    },
+    RunsOut,
+}
+
 const NO_PART: Part = Part { at: 0, len: 0 };
 
 fn read_int(s: &[u8], at: usize) -> FieldsRead
@@ -53,22 +65,41 @@ fn read_int(s: &[u8], at: usize) -> FieldsRead
     }
 }
 
-fn read_int_int(s: &[u8], at: usize) -> FieldsRead
-    ensures { λ r. ⌜ Read Shape.IntInt (now (s .entry)) at r ⌝ }
+// Two numbers.
+pub fn read_pair(s: &[u8], at: usize) -> PairRead
+    ensures { λ r. ⌜ pairIs r ≡ readFields (fieldsIn Shape.IntInt) (now (s .entry)) at ⌝ }
 {
     let IntRead::Got {
-        value: first,
-        next: at_second,
+        value: x,
+        next: at_y,
         remark: _,
     } = varint::read_int(s, at)
     else {
-        return FieldsRead::RunsOut;
+        return PairRead::RunsOut;
     };
     let IntRead::Got {
-        value: second,
+        value: y,
         next,
         remark: _,
-    } = varint::read_int(s, at_second)
+    } = varint::read_int(s, at_y)
+    else {
+        return PairRead::RunsOut;
+    };
+    PairRead::Got {
+        first: x,
+        second: y,
+        next,
+    }
+}
+
+fn read_int_int(s: &[u8], at: usize) -> FieldsRead
+    ensures { λ r. ⌜ Read Shape.IntInt (now (s .entry)) at r ⌝ }
+{
+    let PairRead::Got {
+        first,
+        second,
+        next,
+    } = read_pair(s, at)
     else {
         return FieldsRead::RunsOut;
     };

@@ -16,11 +16,10 @@ use Rattle.fields.specs.Views.{numbers, inputFields, inputRead}
 use Rattle.fields.specs.declared.InputAnswer.{InputAnswer}
 use Rattle.fields.specs.declared.InputAnswer.the-variants as inputs
 use Rattle.fields.specs.declared.InputRead.{InputRead}
-use Rattle.shapes.specs.Shapes.{fieldsIn, viewed}
+use Rattle.shapes.specs.Shapes.{fieldsIn, pairIs}
 use Rattle.shapes.specs.declared.Shape.the-variants.{IntInt}
-use Rattle.shapes.specs.declared.Fields.{Fields}
-use Rattle.shapes.specs.declared.FieldsRead.{FieldsRead}
-use Rattle.shapes.specs.declared.FieldsRead.the-variants as shapes
+use Rattle.shapes.specs.declared.PairRead.{PairRead}
+use Rattle.shapes.specs.declared.PairRead.the-variants as pairs
 use Rattle.item.specs.Said.{finish}
 use Rattle.item.specs.Records.{asContent, readRest}
 use Rattle.item.specs.declared.Kind.the-variants as kinds
@@ -44,23 +43,23 @@ module _ (s : Scalars) (m : Memory) (last : Bool) (w : List ℕ) (at : ℕ) wher
   abbrev pairOf : Bool → ℤ → Reading (List (Value Part)) → Step
   pairOf new cid x = slimStep (withRest s m last (asContent (Plain (pairKind new cid)) x))
 
-  pair-step : (new : Bool) (cid : ℤ) (f : Fields) (n : ℕ) → pairStep new cid (f .first) (f .second) n ≡ pairOf new cid (viewed IntInt (shapes.Got f n))
+  pair-step : (new : Bool) (cid x y : ℤ) (n : ℕ) → pairStep new cid x y n ≡ pairOf new cid (pairIs (pairs.Got x y n))
   unfolding apply numbers
-  pair-step true cid f n = sym (slim-calm _ (calm-new (naming cid s) m cid (f .first) (f .second) n))
-  pair-step false cid f n = sym (slim-calm _ (calm-diff (naming cid s) m cid (f .first) (f .second) n))
+  pair-step true cid x y n = sym (slim-calm _ (calm-new (naming cid s) m cid x y n))
+  pair-step false cid x y n = sym (slim-calm _ (calm-diff (naming cid s) m cid x y n))
 
   pair-rest : (new : Bool) (cid : ℤ) → pairOf new cid (readFields (fieldsIn IntInt) w at) ≡ slimStep (withRest s m last (readRest (pairKind new cid) w at))
   unfolding readRest
   pair-rest true cid = refl
   pair-rest false cid = refl
 
-  module _ (new : Bool) (cid : ℤ) (r : FieldsRead) (v : viewed IntInt r ≡ readFields (fieldsIn IntInt) w at) where
-    pub pair-out : r ≡ shapes.RunsOut → outOf last s m ≡ slimStep (withRest s m last (readRest (pairKind new cid) w at))
-    pair-out e = sym (slim-calm _ (calm-out last s m)) ∙ ap (pairOf new cid) (ap (viewed IntInt) (sym e) ∙ v) ∙ pair-rest new cid
+  module _ (new : Bool) (cid : ℤ) (r : PairRead) (v : pairIs r ≡ readFields (fieldsIn IntInt) w at) where
+    pub pair-out : r ≡ pairs.RunsOut → outOf last s m ≡ slimStep (withRest s m last (readRest (pairKind new cid) w at))
+    pair-out e = sym (slim-calm _ (calm-out last s m)) ∙ ap (pairOf new cid) (ap pairIs (sym e) ∙ v) ∙ pair-rest new cid
 
-    pub pair-got : (f : Fields) (n : ℕ) → r ≡ shapes.Got f n
-        → pairStep new cid (f .first) (f .second) n ≡ slimStep (withRest s m last (readRest (pairKind new cid) w at))
-    pair-got f n e = pair-step new cid f n ∙ ap (pairOf new cid) (ap (viewed IntInt) (sym e) ∙ v) ∙ pair-rest new cid
+    pub pair-got : (x y : ℤ) (n : ℕ) → r ≡ pairs.Got x y n
+        → pairStep new cid x y n ≡ slimStep (withRest s m last (readRest (pairKind new cid) w at))
+    pair-got x y n e = pair-step new cid x y n ∙ ap (pairOf new cid) (ap pairIs (sym e) ∙ v) ∙ pair-rest new cid
 
   pub old-rest : (cid : ℤ) → oldPlayer (naming cid s) m cid at ≡ slimStep (withRest s m last (readRest (kinds.PlayerOld cid) w at))
   unfolding readRest apply

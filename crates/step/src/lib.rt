@@ -19,8 +19,7 @@ use item::KindRead;
 use item::Version;
 use records::ItemRead;
 use refusal::Refusal;
-use shapes::FieldsRead;
-use shapes::Shape;
+use shapes::PairRead;
 use state::Answer;
 use state::Event;
 use state::Outcome;
@@ -56,11 +55,14 @@ fn with_pair(
         ≡ slimStep (withRest s (memory (now (marks .entry)) (now (xs .entry)) (now (ys .entry)) held inputs input former) last (readRest (pairKind new cid) (now (w .entry)) at)))
         ⌝ }
 {
-    let FieldsRead::Got { fields, next } = shapes::read_shape(Shape::IntInt, w, at) else {
+    let PairRead::Got {
+        first,
+        second,
+        next,
+    } = shapes::read_pair(w, at)
+    else {
         return state::run_out(s, last);
     };
-    let first = fields.first;
-    let second = fields.second;
     let t = state::named(s, cid);
     if new {
         return players::player_new(t, marks, xs, ys, cid, first, second, next);
@@ -148,7 +150,8 @@ fn finished(s: Scalars, used: usize) -> Outcome
     }
 }
 
-// The rest of a record of a kind, and what it changes.
+// The rest of a record of a kind, and what it changes. The kinds that change no entry share one call, so that it is inlined: called
+// from several places, it would make the scalars of every record pass through memory.
 fn with_record(
     s: Scalars,
     marks: &mut [u8; 128],
@@ -169,19 +172,22 @@ fn with_record(
         ⌝ }
 {
     match kind {
-        Kind::PlayerDiff(cid) => with_pair(s, marks, xs, ys, false, cid, w, at, last),
-        Kind::Finish => finished(s, at),
-        Kind::TickSkip => with_skip(s, w, at, last),
-        Kind::PlayerNew(cid) => with_pair(s, marks, xs, ys, true, cid, w, at, last),
-        Kind::PlayerOld(cid) => players::player_old(state::named(s, cid), marks, xs, ys, cid, at),
-        Kind::InputDiff => with_input(s, held, inputs, input, former, false, w, at, last),
-        Kind::InputNew => with_input(s, held, inputs, input, former, true, w, at, last),
-        Kind::Message => with_other(s, kind, w, at, last),
-        Kind::Join => with_other(s, kind, w, at, last),
-        Kind::Drop => with_other(s, kind, w, at, last),
-        Kind::ConsoleCommand => with_other(s, kind, w, at, last),
-        Kind::Ex => with_other(s, kind, w, at, last),
+        Kind::PlayerDiff(cid) => return with_pair(s, marks, xs, ys, false, cid, w, at, last),
+        Kind::Finish => return finished(s, at),
+        Kind::TickSkip => return with_skip(s, w, at, last),
+        Kind::PlayerNew(cid) => return with_pair(s, marks, xs, ys, true, cid, w, at, last),
+        Kind::PlayerOld(cid) => {
+            return players::player_old(state::named(s, cid), marks, xs, ys, cid, at);
+        }
+        Kind::InputDiff => return with_input(s, held, inputs, input, former, false, w, at, last),
+        Kind::InputNew => return with_input(s, held, inputs, input, former, true, w, at, last),
+        Kind::Message => {}
+        Kind::Join => {}
+        Kind::Drop => {}
+        Kind::ConsoleCommand => {}
+        Kind::Ex => {}
     }
+    with_other(s, kind, w, at, last)
 }
 
 // What the tick rule says of the kind.

@@ -5,7 +5,7 @@ use borrow.Author.Needs.{needs}
 use Rattle.item.specs.Extensions.{extensions, payloadAt}
 use Rattle.extension_records.specs.Views.{exContent}
 use Rattle.extension_records.proofs.Held.{held, held-same}
-use Rattle.extension_records.proofs.Keys.{outside}
+use Rattle.ids.proofs.Keys.{outside}
 use Rattle.extension_records.proofs.Payloads.{none}
 use Rattle.extension_records.proofs.ex_item.Statement.{statement}
 use Rattle.extension_records.proofs.ex_item.Tie as tie

@@ -1,7 +1,7 @@
 -- `extension_records::payload_of` meets its contract: each arm as the table has it. Assumes nothing.
 use mathlib.Core.Path.{_≡_, sym, ap}
 use Rattle.item.specs.Extensions.{extensions, payloadAt}
-use Rattle.extension_records.proofs.Keys.{outside}
+use Rattle.ids.proofs.Keys.{outside}
 use Rattle.extension_records.proofs.Payloads.{none}
 use Rattle.extension_records.proofs.payload_of.Statement.{statement}
 use Rattle.extension_records.proofs.payload_of.Tie as tie

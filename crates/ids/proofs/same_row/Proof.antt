@@ -1,60 +1,33 @@
--- `ids::same_row` meets its contract. The loop's invariant: the bytes that are left are the same exactly if all are. Assumes nothing.
-use Prim.Native.Nat.{suc, _+_, _*_, _-_, _≤_}
+-- `ids::same_row` meets its contract. Assumes nothing.
+use Prim.Native.Nat.{ℕ, _<_}
 use mathlib.Core.Path.{_≡_, sym, _∙_}
 use native.Mathlib.Omega.{arith}
-use native.Mathlib.Nat.{add-zero}
-use lib.ListN.{take, drop, getD}
-use Rattle.item.specs.Extensions.{same}
-use Rattle.ids.specs.Table.{table, rowAt}
-use Rattle.ids.proofs.Same.{same-more, same-ends, same-none}
-use Rattle.ids.proofs.Table.{row-bytes, table-length}
+use lib.ListN.{getD}
+use borrow.Author.Needs.{needs}
+use Rattle.ids.proofs.Halves.{first-differs, second-tells}
 use Rattle.ids.proofs.same_row.Statement.{statement}
 use Rattle.ids.proofs.same_row.Tie as tie
 
-abbrev Inv-loop : tie.InvT-loop
-Inv-loop s at k base i₀ i =
-    (i ≤ 16) × (same (take 16 (drop at s)) (rowAt k) ≡ same (take (16 - i) (drop (at + i) s)) (take (16 - i) (drop (base + i) table)))
-
-abbrev μ-loop : tie.MeasureT-loop
-μ-loop s at k base i₀ i = 16 - i
-
-loop-holds : tie.Need-loop-holds Inv-loop μ-loop
-loop-holds c =
-    let a = c .before .args in
-    (omega arith, rw (row-bytes (a .k) (omega arith) .0, add-zero (a .at), add-zero (a .k * 16)))
-
-returns : tie.Need-returns Inv-loop μ-loop
+returns : tie.Need-returns
 returns c =
-    let a = c .before .before .before .before .before .before .args in
-    let l = c .before .before .before .before .loop in
-    let e : 16 - l .i ≡ suc (16 - (l .i + 1)) = omega arith in
-    let d : getD (a .s .now) (a .at + l .i) 0 ≡ getD table (a .k * 16 + l .i) 0 → ⊥ =
-    λ q. c .if1 .taken (q ∙ sym (c .before .table-byte .ensures)) in
+    let w = c .before .before in
+    let a = w .before .before .args in
+    let g : (i : ℕ) → getD (a .s .now) i 0 < 256 = λ i. omega (arith, w .before .shared-slice-known .given i) in
     sym
-    (l .inv .1
-    ∙ rw e
-    (same-ends (a .s .now) table (a .at + l .i) (a .k * 16 + l .i) (16 - (l .i + 1)) (omega arith) (omega (arith, table-length)) d))
+    (first-differs (a .s .now) g (a .at) (a .k) (omega arith) (omega arith)
+    (λ q. c .if1 .taken (w .word .ensures ∙ q ∙ sym (c .before .first-half .ensures))))
 
-loop-again : tie.Need-loop-again Inv-loop μ-loop
-loop-again c =
-    let a = c .before .before .before .before .before .before .args in
-    let l = c .before .before .before .before .loop in
-    let e : 16 - l .i ≡ suc (16 - (l .i + 1)) = omega arith in
-    let p : a .at + l .i + 1 ≡ a .at + (l .i + 1) = omega arith in
-    let q : a .k * 16 + l .i + 1 ≡ a .k * 16 + (l .i + 1) = omega arith in (
-      omega arith,
-      l .inv .1
-          ∙ rw e
-          (same-more (a .s .now) table (a .at + l .i) (a .k * 16 + l .i) (16 - (l .i + 1)) (omega arith) (omega (arith, table-length))
-          (c .if1 .left ∙ c .before .table-byte .ensures)
-          ∙ rw (p, q)),
-    )
-
-returns-2 : tie.Need-returns-2 Inv-loop μ-loop
-returns-2 c = let l = c .before .loop in let e : 16 - l .i ≡ 0 = omega arith in sym (l .inv .1 ∙ rw e same-none)
+returns-2 : tie.Need-returns-2
+returns-2 c =
+    let f = c .before .before .before in
+    let w = f .before in
+    let a = w .before .before .args in
+    let g : (i : ℕ) → getD (a .s .now) i 0 < 256 = λ i. omega (arith, w .before .shared-slice-known .given i) in
+    second-tells (a .s .now) g (a .at) (a .k) (omega arith) (omega arith)
+    (sym (w .word .ensures) ∙ c .before .before .if1 .left ∙ f .first-half .ensures) (c .before .word2 .result) (c .second-half .result)
+    (c .before .word2 .ensures) (c .second-half .ensures)
 
 pub same-row-spec : {M : Type 1} → statement M
 same-row-spec =
     tie.close
-    (tie.spec Inv-loop μ-loop (λ c. omega arith) loop-holds (λ c. omega arith) (λ c. omega arith) (λ c. omega arith)
-    (λ c κs. omega arith) returns (λ c. omega arith) (λ c. omega arith) loop-again returns-2)
+    (tie.spec (λ c κs. search needs) (λ c κs. search needs) returns (λ c. search needs) (λ c κs. search needs) (λ c κs. search needs) returns-2)

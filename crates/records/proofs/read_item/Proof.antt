@@ -32,12 +32,10 @@ returns-3 c =
 
 returns-4 : tie.Need-returns-4
 returns-4 c =
-    let o = c .before .before .before .before in
+    let o = c .before .before .before in
     let a = o .before .before .args in
-    c .item-of2 .ensures
-    ∙ ap own
-    (c .before .read-console .ensures .values
-    ∙ rest-told (a .kind) (a .s .now) (a .at) rests.Command (sym (o .rest-of .ensures) ∙ c .before .before .enum-told2 .given .1))
+    c .console-item .ensures
+    ∙ ap own (rest-told (a .kind) (a .s .now) (a .at) rests.Command (sym (o .rest-of .ensures) ∙ c .before .enum-told2 .given .1))
 
 returns-5 : tie.Need-returns-5
 returns-5 c =
@@ -60,7 +58,6 @@ read-item-spec =
     (λ c κs. search needs)
     (λ c κs. search needs)
     (λ c. search needs)
-    (λ c κs. search needs)
     (λ c κs. search needs)
     (λ c. search needs)
     (λ c κs. search needs)

@@ -1,31 +1,23 @@
 -- `shapes::read_int_int` meets its contract. Assumes nothing.
-use mathlib.Core.Path.{_≡_, refl, sym, _∙_}
+use mathlib.Core.Path.{_≡_, refl, sym, _∙_, ap}
 use borrow.Author.Needs.{needs}
-use Rattle.shapes.proofs.Kept.{int-kept}
+use mir.Syntax.{w32}
+use mir.Val.{toZ, ofZ}
+use Rattle.shapes.specs.Shapes.{pairIs}
 use Rattle.shapes.proofs.read_int_int.Statement.{statement}
 use Rattle.shapes.proofs.read_int_int.Tie as tie
 
 returns : tie.Need-returns
-returns c = record { values = rw (sym (c .before .before .read-int .ensures) ∙ c .enum-told .given .1); blank = refl }
+returns c = record { values = ap pairIs (sym (c .enum-told .given .1)) ∙ c .before .before .read-pair .ensures; blank = refl }
 
 returns-2 : tie.Need-returns-2
 returns-2 c =
-    let c1 = c .before .before .before .before in
-    let first = int-kept _ _ (c1 .before .before .read-int .ensures) (c1 .first .given .1) in
-    let second = sym (c .before .before .read-int2 .ensures) ∙ c .enum-told2 .given .1 in
-    record { values = rw (first, second); blank = refl }
-
-returns-3 : tie.Need-returns-3
-returns-3 c =
-    let c2 = c .before in
-    let c1 = c2 .before .before .before .before in
-    let first = int-kept _ _ (c1 .before .before .read-int .ensures) (c1 .first .given .1) in
-    let second = int-kept _ _ (c2 .before .before .read-int2 .ensures) (c2 .second .given .1) in
-    record { values = rw (first, second); blank = refl }
+    let p = c .before in
+    let g = p .first .given in
+    let x : toZ w32 (ofZ w32 (g .0 .0)) ≡ g .0 .0 = search needs in
+    let y : toZ w32 (ofZ w32 (g .0 .1 .0)) ≡ g .0 .1 .0 = search needs in
+    record { values = rw (x, y) (ap pairIs (sym (g .1)) ∙ p .before .before .read-pair .ensures); blank = refl }
 
 pub read-int-int-spec : {M : Type 1} → statement M
 read-int-int-spec =
-    tie.close
-    (tie.spec
-    (λ c κs. search needs) (λ c. search needs) (λ c. search needs) returns
-    (λ c κs. search needs) (λ c. search needs) (λ c. search needs) returns-2 returns-3)
+    tie.close (tie.spec (λ c κs. search needs) (λ c. search needs) (λ c. search needs) returns returns-2)

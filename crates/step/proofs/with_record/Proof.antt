@@ -1,5 +1,6 @@
 -- `step::with_record` meets its contract. Assumes nothing.
 use mathlib.Core.Path.{_≡_, _∙_}
+use mathlib.Core.Logic.{⊎-elim}
 use mir.Syntax.{w32}
 use mir.Val.{toZ, ofZ}
 use Rattle.state.specs.State.{memory}
@@ -51,38 +52,29 @@ returns-7 c =
     let a = c .before .before .before .before .before .before .before .before .args in
     rw (c .before .before .before .before .before .enum-told4 .given .1) (c .with-input2 .ensures (a .marks .now) (a .xs .now) (a .ys .now))
 
+with-other-requires : tie.Need-with-other-requires
+with-other-requires c κs =
+    ⊎-elim (λ w. rw (w .1 .given .1))
+    (⊎-elim (λ w. rw (w .1 .given .1))
+    (⊎-elim (λ w. rw (w .1 .given .1))
+    (⊎-elim (λ w. rw (w .1 .given .1)) (λ w. rw (w .1 .given .1)))))
+    (c .match .came)
+
 returns-8 : tie.Need-returns-8
 returns-8 c =
-    let a = c .before .before .before .before .args in
+    let a = c .before .before .before .args in
     c .with-other .ensures (memory (a .marks .now) (a .xs .now) (a .ys .now) (a .held .now) (a .inputs .now) (a .input .now) (a .former .now))
-
-returns-9 : tie.Need-returns-9
-returns-9 c =
-    let a = c .before .before .before .before .args in
-    c .with-other2 .ensures (memory (a .marks .now) (a .xs .now) (a .ys .now) (a .held .now) (a .inputs .now) (a .input .now) (a .former .now))
-
-returns-10 : tie.Need-returns-10
-returns-10 c =
-    let a = c .before .before .before .before .args in
-    c .with-other3 .ensures (memory (a .marks .now) (a .xs .now) (a .ys .now) (a .held .now) (a .inputs .now) (a .input .now) (a .former .now))
-
-returns-11 : tie.Need-returns-11
-returns-11 c =
-    let a = c .before .before .before .before .args in
-    c .with-other4 .ensures (memory (a .marks .now) (a .xs .now) (a .ys .now) (a .held .now) (a .inputs .now) (a .input .now) (a .former .now))
-
-returns-12 : tie.Need-returns-12
-returns-12 c =
-    let a = c .before .before .before .before .args in
-    c .with-other5 .ensures (memory (a .marks .now) (a .xs .now) (a .ys .now) (a .held .now) (a .inputs .now) (a .input .now) (a .former .now))
 
 pub with-record-spec : {M : Type 1} → statement M
 with-record-spec =
     tie.close
-    (tie.spec (λ c. search needs) (λ c κs. search needs) (λ c. search needs) (λ c κs. search needs) (λ c. search needs) (λ c κs. search needs) (λ c. search needs) (λ c κs. search needs) (λ c. search needs) (λ c κs. search needs) (λ c κs. search needs) (λ c. search needs) (λ c κs. search needs) (λ c. search needs) (λ c κs. search needs)
-    (λ c. search needs) (λ c κs. rw (c .enum-told5 .given .1))
-    (λ c. search needs) (λ c κs. rw (c .enum-told6 .given .1))
-    (λ c. search needs) (λ c κs. rw (c .enum-told7 .given .1))
-    (λ c. search needs) (λ c κs. rw (c .enum-told8 .given .1))
-    (λ c. search needs) (λ c κs. rw (c .enum-told9 .given .1))
-    returns returns-2 returns-3 returns-4 returns-5 returns-6 returns-7 returns-8 returns-9 returns-10 returns-11 returns-12)
+    (tie.spec
+    (λ c. search needs) (λ c κs. search needs) returns
+    (λ c. search needs) (λ c κs. search needs) returns-2
+    (λ c. search needs) (λ c κs. search needs) returns-3
+    (λ c. search needs) (λ c κs. search needs) returns-4
+    (λ c. search needs) (λ c κs. search needs) (λ c κs. search needs) returns-5
+    (λ c. search needs) (λ c κs. search needs) returns-6
+    (λ c. search needs) (λ c κs. search needs) returns-7
+    (λ c. search needs) (λ c. search needs) (λ c. search needs) (λ c. search needs) (λ c. search needs)
+    with-other-requires returns-8)
