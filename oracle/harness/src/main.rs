@@ -1,19 +1,14 @@
 //! The oracle: libtw2's reader behind a command line.
 
-mod bench;
-mod compare;
-mod expected;
-mod fields;
-mod integers;
-mod program;
-mod records;
-mod replay;
-mod run;
-mod shrink;
-mod text;
-
+use oracle::bench;
+use oracle::compare;
+use oracle::expected;
+use oracle::input;
+use oracle::integers;
+use oracle::invalid;
+use oracle::records;
+use oracle::replay;
 use std::io;
-use std::io::Read;
 use std::process::ExitCode;
 
 const USAGE: &str = "usage:
@@ -51,19 +46,7 @@ fn command(words: &[&str]) -> io::Result<ExitCode> {
     Ok(ExitCode::SUCCESS)
 }
 
-/// All of the standard input.
-pub fn input() -> io::Result<Vec<u8>> {
-    let mut bytes = Vec::new();
-    io::stdin().read_to_end(&mut bytes)?;
-    Ok(bytes)
-}
-
 fn number(word: &str) -> io::Result<u64> {
     word.parse()
         .map_err(|_| invalid(&format!("{word} is not a number")))
-}
-
-/// An error for input that the command line or a file got wrong.
-pub fn invalid(message: &str) -> io::Error {
-    io::Error::new(io::ErrorKind::InvalidInput, message)
 }

@@ -38,9 +38,12 @@ impl Options {
     }
 }
 
+/// As much text as the replay program gathers before it writes.
+const BUFFER: usize = 1 << 19;
+
 pub fn command(options: &Options) -> io::Result<()> {
     let input = input()?;
-    let mut out = io::BufWriter::new(io::stdout().lock());
+    let mut out = io::BufWriter::with_capacity(BUFFER, io::stdout().lock());
     match start(&input, options) {
         Some(run) => replay(run, options, &mut out)?,
         None => writeln!(out, "refused 2")?,
@@ -58,31 +61,37 @@ fn start<'b>(input: &'b [u8], options: &Options) -> Option<Run<'b>> {
     Run::new(*version, body, pace)
 }
 
-/// What one call prints, and whether it was the last.
-#[derive(Default)]
-struct Printed {
-    line: String,
-    fields: Option<String>,
-    client: Option<i32>,
-    used: bool,
-    last: bool,
-}
-
 fn replay(mut run: Run, options: &Options, out: &mut impl Write) -> io::Result<()> {
     let mut named = BTreeSet::new();
     loop {
         let before = run.place();
-        let printed = printed(run.call(), options);
-        write!(out, "{}", printed.line)?;
-        if options.used && printed.used {
+        let mut fields_line = None;
+        let last = match run.call() {
+            Answer::Event(event) => {
+                text::write_event(out, &event)?;
+                if options.fields {
+                    fields_line = text::record(&event).map(|r| fields(&r));
+                }
+                if options.board {
+                    named.extend(entry(&event));
+                }
+                false
+            }
+            Answer::Finish => write!(out, "finish").map(|()| true)?,
+            Answer::Refused(number) => {
+                writeln!(out, "refused {number}")?;
+                break;
+            }
+            Answer::Stopped => unreachable!("this pace has no limit"),
+        };
+        if options.used {
             write!(out, " used {}", run.place() - before)?;
         }
         writeln!(out)?;
-        if let Some(fields) = printed.fields {
+        if let Some(fields) = fields_line {
             writeln!(out, "fields {fields}")?;
         }
-        named.extend(printed.client);
-        if printed.last {
+        if last {
             break;
         }
     }
@@ -90,32 +99,6 @@ fn replay(mut run: Run, options: &Options, out: &mut impl Write) -> io::Result<(
         board(run.reader(), &named, out)?;
     }
     Ok(())
-}
-
-fn printed(answer: Answer, options: &Options) -> Printed {
-    match answer {
-        Answer::Event(event) => Printed {
-            line: text::event(&event),
-            fields: text::record(&event)
-                .filter(|_| options.fields)
-                .map(|r| fields(&r)),
-            client: entry(&event),
-            used: true,
-            last: false,
-        },
-        Answer::Finish => Printed {
-            line: "finish".to_string(),
-            used: true,
-            last: true,
-            ..Printed::default()
-        },
-        Answer::Refused(number) => Printed {
-            line: format!("refused {number}"),
-            last: true,
-            ..Printed::default()
-        },
-        Answer::Stopped => unreachable!("this pace has no limit"),
-    }
 }
 
 /// The client for which the event makes an entry on the board.
@@ -135,7 +118,9 @@ fn board(reader: &Reader, named: &BTreeSet<i32>, out: &mut impl Write) -> io::Re
             writeln!(out, "pos {client} {} {}", pos.x, pos.y)?;
         }
         if let Some(input) = reader.input(client) {
-            writeln!(out, "inp {client}{}", text::numbers(&input))?;
+            write!(out, "inp {client}")?;
+            text::write_numbers(out, &input)?;
+            writeln!(out)?;
         }
     }
     writeln!(out, "cids {end}")

@@ -3,30 +3,45 @@
 use libtw2_teehistorian::format;
 use libtw2_teehistorian::format::item;
 use libtw2_teehistorian::raw::Item;
+use std::io;
+use std::io::Write;
 
 pub fn event(event: &Item) -> String {
+    let mut line = Vec::new();
+    write_event(&mut line, event).expect("a vector takes every byte");
+    String::from_utf8(line).expect("a line is ASCII")
+}
+
+/// Writes the line without its end.
+pub fn write_event(out: &mut impl Write, event: &Item) -> io::Result<()> {
     match event {
-        Item::TickStart(tick) => format!("start {tick}"),
-        Item::TickEnd(tick) => format!("end {tick}"),
-        Item::PlayerNew(i) => format!("new {} {} {}", i.cid, i.pos.x, i.pos.y),
-        Item::PlayerChange(i) => format!(
+        Item::TickStart(tick) => write!(out, "start {tick}"),
+        Item::TickEnd(tick) => write!(out, "end {tick}"),
+        Item::PlayerNew(i) => write!(out, "new {} {} {}", i.cid, i.pos.x, i.pos.y),
+        Item::PlayerChange(i) => write!(
+            out,
             "change {} {} {} {} {}",
             i.cid, i.pos.x, i.pos.y, i.old_pos.x, i.old_pos.y
         ),
-        Item::PlayerOld(i) => format!("old {} {} {}", i.cid, i.pos.x, i.pos.y),
-        Item::Input(i) => format!("input {}{}", i.cid, numbers(&i.input)),
-        _ => record_line(&record(event).expect("every other event is a record")),
+        Item::PlayerOld(i) => write!(out, "old {} {} {}", i.cid, i.pos.x, i.pos.y),
+        Item::Input(i) => {
+            write!(out, "input {}", i.cid)?;
+            write_numbers(out, &i.input)
+        }
+        _ => write_record(out, &record(event).expect("every other event is a record")),
     }
 }
 
 /// Each number after a space.
-pub fn numbers(list: &[i32]) -> String {
-    list.iter().map(|number| format!(" {number}")).collect()
+pub fn write_numbers(out: &mut impl Write, list: &[i32]) -> io::Result<()> {
+    list.iter().try_for_each(|number| write!(out, " {number}"))
 }
 
-fn record_line(record: &format::Item) -> String {
-    let client = record.cid().map_or("-".to_string(), |c| c.to_string());
-    format!("record {} {client}", kind(record))
+fn write_record(out: &mut impl Write, record: &format::Item) -> io::Result<()> {
+    match record.cid() {
+        Some(client) => write!(out, "record {} {client}", kind(record)),
+        None => write!(out, "record {} -", kind(record)),
+    }
 }
 
 /// The kind number of a record that the reader hands on as it stands.

@@ -1,0 +1,21 @@
+-- `lent::good_call` meets its contract. Assumes nothing.
+use mathlib.Core.Path.{ap, _∙_}
+use Rattle.state.specs.Reading.{goodCall}
+use Rattle.state.specs.Views.{slimStep}
+use Rattle.state.proofs.Numbers.{picks-first, picks-second}
+use borrow.Author.Needs.{needs}
+use Rattle.lent.proofs.good_call.Statement.{statement}
+use Rattle.lent.proofs.good_call.Tie as tie
+
+returns : tie.Need-returns
+unfolding goodCall
+returns c = ap slimStep (picks-first (c .before .before .args .s .closed) _ _ (c .if1 .taken))
+
+returns-2 : tie.Need-returns-2
+unfolding goodCall
+returns-2 c =
+    let b = c .before .before .before .before .before .before .before .before in
+    c .open-call .ensures ∙ ap slimStep (picks-second (b .before .before .args .s .closed) _ _ (b .if1 .left))
+
+pub good-call-spec : {M : Type 1} → statement M
+good-call-spec = tie.close (tie.spec returns (λ c κs. search needs) returns-2)

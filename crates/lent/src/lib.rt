@@ -1,0 +1,93 @@
+// The reading call with the scalars lent too, as the entries are: a thin call above the by-value step.
+ghost use mathlib.Core.Path.{_≡_};
+ghost use Rattle.state.specs.State.{memory};
+ghost use Rattle.state.specs.Reading.{step, goodCall};
+ghost use Rattle.state.specs.Views.{saidIs, done, slimStep};
+use refusal::Refusal;
+use state::Answer;
+use state::Outcome;
+use state::Scalars;
+
+// A call on a good reader; a closed one is refused 18.
+fn good_call(
+    s: Scalars,
+    marks: &mut [u8; 128],
+    xs: &mut [i32; 128],
+    ys: &mut [i32; 128],
+    held: &mut [u8; 128],
+    inputs: &mut [i32; 1280],
+    input: &mut [i32; 10],
+    former: &mut [i32; 10],
+    w: &[u8],
+    last: bool,
+) -> Outcome
+    ensures { λ r. ⌜
+        done r (memory (now (marks .exit)) (now (xs .exit)) (now (ys .exit)) (now (held .exit)) (now (inputs .exit)) (now (input .exit)) (now (former .exit)))
+        ≡ slimStep (goodCall s (memory (now (marks .entry)) (now (xs .entry)) (now (ys .entry)) (now (held .entry)) (now (inputs .entry)) (now (input .entry)) (now (former .entry))) (now (w .entry)) last)
+        ⌝ }
+{
+    if s.closed {
+        return Outcome {
+            answer: Answer::Refused(Refusal::Closed),
+            scalars: s,
+        };
+    }
+    step::open_call(s, marks, xs, ys, held, inputs, input, former, w, last)
+}
+
+// The reading call: the scalars lent are those that it leaves.
+pub fn read_lent(
+    scalars: &mut Scalars,
+    marks: &mut [u8; 128],
+    xs: &mut [i32; 128],
+    ys: &mut [i32; 128],
+    held: &mut [u8; 128],
+    inputs: &mut [i32; 1280],
+    input: &mut [i32; 10],
+    former: &mut [i32; 10],
+    w: &[u8],
+    last: bool,
+) -> Answer
+    ensures { λ r. ⌜
+        step (saidIs r) (now (scalars .exit)) (memory (now (marks .exit)) (now (xs .exit)) (now (ys .exit)) (now (held .exit)) (now (inputs .exit)) (now (input .exit)) (now (former .exit)))
+        ≡ slimStep (goodCall (now (scalars .entry)) (memory (now (marks .entry)) (now (xs .entry)) (now (ys .entry)) (now (held .entry)) (now (inputs .entry)) (now (input .entry)) (now (former .entry))) (now (w .entry)) last)
+        ⌝ }
+{
+    let o = good_call(
+        *scalars,
+        marks,
+        xs,
+        ys,
+        held,
+        inputs,
+        input,
+        former,
+        w,
+        last,
+    );
+    *scalars = o.scalars;
+    o.answer
+}
+
+// The same with the scalars by value.
+pub fn read_plain(
+    scalars: Scalars,
+    marks: &mut [u8; 128],
+    xs: &mut [i32; 128],
+    ys: &mut [i32; 128],
+    held: &mut [u8; 128],
+    inputs: &mut [i32; 1280],
+    input: &mut [i32; 10],
+    former: &mut [i32; 10],
+    w: &[u8],
+    last: bool,
+) -> Outcome
+    ensures { λ r. ⌜
+        done r (memory (now (marks .exit)) (now (xs .exit)) (now (ys .exit)) (now (held .exit)) (now (inputs .exit)) (now (input .exit)) (now (former .exit)))
+        ≡ slimStep (goodCall scalars (memory (now (marks .entry)) (now (xs .entry)) (now (ys .entry)) (now (held .entry)) (now (inputs .entry)) (now (input .entry)) (now (former .entry))) (now (w .entry)) last)
+        ⌝ }
+{
+    let mut s = scalars;
+    let answer = read_lent(&mut s, marks, xs, ys, held, inputs, input, former, w, last);
+    Outcome { answer, scalars: s }
+}

@@ -1,0 +1,28 @@
+//! libtw2's reader, and what is compared with it.
+
+pub mod bench;
+pub mod compare;
+pub mod expected;
+pub mod fields;
+pub mod integers;
+pub mod program;
+pub mod records;
+pub mod replay;
+pub mod run;
+pub mod shrink;
+pub mod text;
+
+use std::io;
+use std::io::Read;
+
+/// All of the standard input.
+pub fn input() -> io::Result<Vec<u8>> {
+    let mut bytes = Vec::new();
+    io::stdin().read_to_end(&mut bytes)?;
+    Ok(bytes)
+}
+
+/// An error for input that the command line or a file got wrong.
+pub fn invalid(message: &str) -> io::Error {
+    io::Error::new(io::ErrorKind::InvalidInput, message)
+}
