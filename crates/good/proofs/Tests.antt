@@ -1,7 +1,7 @@
 -- The tests of a state: a loop over the entries, equal numbers, numbers that aren't negative. Assumes nothing.
 use Prim.Native.Nat.{ℕ, suc, _+_, _-_}
 use mathlib.Core.Path.{_≡_, refl, sym, _∙_}
-use mathlib.Core.Bool.{Bool, true, _&&_}
+use mathlib.Core.Bool.{Bool, true, false, cond, _&&_, _||_}
 use native.Mathlib.Omega.{arith}
 use native.Mathlib.Decide.{ℕ-discrete}
 use native.Mathlib.Numerals.{add-one}
@@ -21,6 +21,10 @@ none-yet p = refl
 pub one-more : (p : ℕ → Bool) (i : ℕ) (t g r : Bool) → t ≡ p i → g ≡ every i p → r ≡ (t && g) → r ≡ every (i + 1) p
 unfolding every
 one-more p i t g r et eg er = rw (add-one, ← et, ← eg) er
+
+pub one-or : (a b : Bool) → (a || b) ≡ cond a true b
+one-or true b = refl
+one-or false b = refl
 
 -- the test of two numbers compares their bits
 pub same-bits : (a b : ℤ) → SFits w32 a → SFits w32 b → eqb (ofZ w32 a) (ofZ w32 b) ≡ same a b

@@ -5,7 +5,7 @@ ghost use lib.IntN.{pos, _+ℤ_};
 ghost use Rattle.fields.specs.Views.{zeros};
 ghost use Rattle.item.specs.Said.{refusing};
 ghost use Rattle.item.specs.Contents.{noArgs};
-ghost use Rattle.state.specs.State.{goodReader};
+ghost use Rattle.state.specs.State.{entriesWith, goodReader};
 ghost use Rattle.state.specs.Reading.{step, openCall, memoryOf};
 ghost use Rattle.reader.specs.Answers.{
   recordEvent,
@@ -27,7 +27,6 @@ use refusal::Refusal;
 use state::Answer;
 use state::Entries;
 use state::Event;
-use state::Outcome;
 use state::Reader;
 use state::Scalars;
 
@@ -148,17 +147,23 @@ fn args_of(answer: Answer, s: Scalars, w: &[u8]) -> Args
     }
 }
 
-fn answered(
-    o: Outcome,
-    entries: Entries,
+// What a call on lent entries says, the scalars that it leaves, and what stands beside an event.
+struct Told {
+    answer: Answer,
+    scalars: Scalars,
     input: [i32; 10],
     former: [i32; 10],
     args: Args,
-) -> ReadAnswer
-    ensures { λ r. ⌜ r ≡ readAnswer (o .answer) (o .scalars) entries input former args ⌝ }
+}
+
+fn answered(told: Told, entries: Entries) -> ReadAnswer
+    ensures { λ r. ⌜ r ≡ readAnswer (told .answer) (told .scalars) entries (told .input) (told .former) (told .args) ⌝ }
 {
-    let answer = o.answer;
-    let scalars = o.scalars;
+    let answer = told.answer;
+    let scalars = told.scalars;
+    let input = told.input;
+    let former = told.former;
+    let args = told.args;
     ReadAnswer {
         answer,
         reader: Reader { scalars, entries },
@@ -174,61 +179,89 @@ fn refused(reader: Reader, why: Refusal) -> ReadAnswer
 {
     let scalars = reader.scalars;
     let entries = reader.entries;
-    let o = Outcome {
+    let told = Told {
         answer: Answer::Refused(why),
         scalars,
+        input: [0; 10],
+        former: [0; 10],
+        args: no_args(),
     };
-    answered(o, entries, [0; 10], [0; 10], no_args())
+    answered(told, entries)
 }
 
 // A call on an open reader.
-fn open_read(s: Scalars, entries: Entries, window: &[u8], last: bool) -> ReadAnswer
-    ensures { λ r. ⌜ Tells (openCall s (memoryOf entries) (now (window .entry)) last) r ⌝ }
+fn open_told(
+    s: Scalars,
+    marks: &mut [u8; 128],
+    xs: &mut [i32; 128],
+    ys: &mut [i32; 128],
+    held: &mut [u8; 128],
+    inputs: &mut [i32; 1280],
+    window: &[u8],
+    last: bool,
+) -> Told
+    ensures { λ r. ⌜ Tells (openCall s (memoryOf (entriesWith (now (marks .entry)) (now (xs .entry)) (now (ys .entry)) (now (held .entry)) (now (inputs .entry)))) (now (window .entry)) last)
+        (readAnswer (r .answer) (r .scalars) (entriesWith (now (marks .exit)) (now (xs .exit)) (now (ys .exit)) (now (held .exit)) (now (inputs .exit))) (r .input) (r .former) (r .args)) ⌝ }
 {
-    let mut marks = entries.marks;
-    let mut xs = entries.xs;
-    let mut ys = entries.ys;
-    let mut held = entries.held;
-    let mut inputs = entries.inputs;
     let mut input = [0i32; 10];
     let mut former = [0i32; 10];
     let o = step::open_call(
         s,
-        &mut marks,
-        &mut xs,
-        &mut ys,
-        &mut held,
-        &mut inputs,
+        marks,
+        xs,
+        ys,
+        held,
+        inputs,
         &mut input,
         &mut former,
         window,
         last,
     );
     let answer = o.answer;
+    let scalars = o.scalars;
     let args = args_of(answer, s, window);
-    let left = Entries {
-        marks,
-        xs,
-        ys,
-        held,
-        inputs,
-    };
-    answered(o, left, input, former, args)
+    Told {
+        answer,
+        scalars,
+        input,
+        former,
+        args,
+    }
 }
 
-// The reading call: the window begins at the reader's place; last says that no more bytes come.
+// The reading call: the window begins at the reader's place; last says that no more bytes come. The four small arrays are copied, so that
+// each can be lent; the input numbers stay where they are.
 pub fn read(reader: Reader, window: &[u8], last: bool) -> ReadAnswer
     ensures { λ r. ⌜ ReadIs reader (now (window .entry)) last r ⌝ }
 {
-    if !is_good(reader) {
+    let scalars = reader.scalars;
+    let mut entries = reader.entries;
+    let mut marks = entries.marks;
+    let mut xs = entries.xs;
+    let mut ys = entries.ys;
+    let mut held = entries.held;
+    let good = good::good_lent(&marks, &xs, &ys, &held, &entries.inputs);
+    if !good::both(good::good_scalars(scalars), good) {
         return refused(reader, Refusal::BadState);
     }
-    let scalars = reader.scalars;
-    let entries = reader.entries;
     if scalars.closed {
         return refused(reader, Refusal::Closed);
     }
-    open_read(scalars, entries, window, last)
+    let told = open_told(
+        scalars,
+        &mut marks,
+        &mut xs,
+        &mut ys,
+        &mut held,
+        &mut entries.inputs,
+        window,
+        last,
+    );
+    entries.marks = marks;
+    entries.xs = xs;
+    entries.ys = ys;
+    entries.held = held;
+    answered(told, entries)
 }
 
 // The position of a client, or none.

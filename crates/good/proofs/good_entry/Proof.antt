@@ -1,20 +1,11 @@
 -- `good::good_entry` meets its contract. Assumes nothing.
-use borrow.Author.Tests.{eq-eqb, ne-eqb}
+use borrow.Author.Needs.{needs}
+use lib.Dec.{eqb}
+use Rattle.good.proofs.Tests.{one-or}
 use Rattle.good.proofs.good_entry.Statement.{statement}
 use Rattle.good.proofs.good_entry.Tie as tie
 
-returns : tie.Need-returns
-returns c = rw (eq-eqb (c .before .args .mark) 1 (c .if1 .taken))
-
-returns-2 : tie.Need-returns-2
-returns-2 c =
-    let mark = c .before .before .args .mark in
-    rw (ne-eqb mark 1 (c .before .if1 .left), eq-eqb mark 0 (c .if2 .taken))
-
-returns-3 : tie.Need-returns-3
-returns-3 c =
-    let mark = c .before .before .args .mark in
-    rw (ne-eqb mark 1 (c .before .if1 .left), ne-eqb mark 0 (c .if2 .left))
-
 pub good-entry-spec : {M : Type 1} → statement M
-good-entry-spec = tie.close (tie.spec returns returns-2 returns-3)
+good-entry-spec =
+    tie.close
+    (tie.spec (λ c κs. search needs) (λ c. rw (c .both .ensures) (one-or (eqb (c .before .args .mark) 1) _)))

@@ -1,32 +1,37 @@
 -- `reader::read` meets its contract. Assumes nothing.
-use mathlib.Core.Path.{_≡_, subst}
-use Rattle.state.specs.Reading.{Step}
-use Rattle.reader.specs.Answers.{Tells}
-use Rattle.reader.proofs.Calls.{off, on, call-bad, call-closed, call-open}
+use mathlib.Core.Path.{_≡_}
+use Rattle.reader.proofs.Calls.{off, on, tested, renamed, call-bad, call-closed, call-open}
 use borrow.Author.Needs.{needs}
 use Rattle.reader.proofs.read.Statement.{statement}
 use Rattle.reader.proofs.read.Tie as tie
 
 returns : tie.Need-returns
 returns c =
-    let a = c .before .before .before .before .args in
-    subst (λ (t : Step). Tells t (c .refused .result))
-    (call-bad (a .reader) (a .window .now) (a .last) (off _ _ (c .before .before .is-good .ensures) (c .before .if1 .taken)))
+    let a = c .before .before .before .before .before .before .before .before .before .before .before .before .before .before .before .before .before .before .args in
+    let g = tested (a .reader) _ _ _ (c .before .before .before .good-scalars .ensures) (c .before .before .before .before .good-lent .ensures) (c .before .before .both .ensures) in
+    renamed
+    (call-bad (a .reader) (a .window .now) (a .last) (off _ _ g (c .before .if1 .taken)))
     (c .refused .ensures)
 
 returns-2 : tie.Need-returns-2
 returns-2 c =
-    let a = c .before .before .before .before .before .before .before .args in
-    subst (λ (t : Step). Tells t (c .refused2 .result))
-    (call-closed (a .reader) (a .window .now) (a .last) (on _ _ (c .before .before .before .before .before .is-good .ensures) (c .before .before .before .before .if1 .left)) (c .before .if2 .taken))
+    let a = c .before .before .before .before .before .before .before .before .before .before .before .before .before .before .before .before .before .before .before .args in
+    let g = tested (a .reader) _ _ _ (c .before .before .before .before .good-scalars .ensures) (c .before .before .before .before .before .good-lent .ensures) (c .before .before .before .both .ensures) in
+    renamed
+    (call-closed (a .reader) (a .window .now) (a .last) (on _ _ g (c .before .before .if1 .left)) (c .before .if2 .taken))
     (c .refused2 .ensures)
 
 returns-3 : tie.Need-returns-3
 returns-3 c =
-    let a = c .before .before .before .before .before .before .before .args in
-    subst (λ (t : Step). Tells t (c .open-read .result))
-    (call-open (a .reader) (a .window .now) (a .last) (on _ _ (c .before .before .before .before .before .is-good .ensures) (c .before .before .before .before .if1 .left)) (c .before .if2 .left))
-    (c .open-read .ensures)
+    let a = c .before .before .before .before .before .before .before .before .before .before .before .before .before .before .before .before .before .before .before .before .before .before .before .before .before .args in
+    let g = tested (a .reader) _ _ _ (c .before .before .before .before .before .before .before .before .before .before .good-scalars .ensures) (c .before .before .before .before .before .before .before .before .before .before .before .good-lent .ensures) (c .before .before .before .before .before .before .before .before .before .both .ensures) in
+    rw (c .answered .ensures)
+    (renamed
+    (call-open (a .reader) (a .window .now) (a .last) (on _ _ g (c .before .before .before .before .before .before .before .before .if1 .left)) (c .before .before .before .before .before .before .before .if2 .left))
+    (c .before .open-told .ensures))
 
 pub read-spec : {M : Type 1} → statement M
-read-spec = tie.close (tie.spec (λ c κs. search needs) (λ c κs. search needs) returns (λ c κs. search needs) returns-2 (λ c κs. search needs) returns-3)
+read-spec =
+    tie.close
+    (tie.spec (λ c κs. search needs) (λ c κs. search needs) (λ c κs. search needs) (λ c κs. search needs) returns
+    (λ c κs. search needs) returns-2 (λ c κs. search needs) (λ c κs. search needs) returns-3)

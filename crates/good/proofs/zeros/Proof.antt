@@ -1,21 +1,21 @@
--- `good::ten_zeros` meets its contract. Assumes nothing.
+-- `good::zeros` meets its contract. Assumes nothing.
 use borrow.Author.Needs.{needs}
 use Prim.Native.Nat.{_≤_, _-_, _+_, _*_}
 use mathlib.Core.Path.{_≡_}
 use native.Mathlib.Omega.{arith}
 use lib.ListN.{getD}
 use lib.IntN.{pos}
-use Rattle.state.specs.State.{every, zeroAt, tenZeros}
+use Rattle.state.specs.State.{every, zeroAt}
 use Rattle.state.proofs.Numbers.{element}
 use Rattle.good.proofs.Tests.{none-yet, one-more}
-use Rattle.good.proofs.ten_zeros.Statement.{statement}
-use Rattle.good.proofs.ten_zeros.Tie as tie
+use Rattle.good.proofs.zeros.Statement.{statement}
+use Rattle.good.proofs.zeros.Tie as tie
 
 abbrev Inv-loop : tie.InvT-loop
-Inv-loop inputs c blank₀ k₀ blank k = (k ≤ 10) × (blank ≡ every k (zeroAt inputs c))
+Inv-loop inputs c n blank₀ k₀ blank k = (k ≤ n) × (blank ≡ every k (zeroAt inputs c))
 
 abbrev μ-loop : tie.MeasureT-loop
-μ-loop inputs c blank₀ k₀ blank k = 10 - k
+μ-loop inputs c n blank₀ k₀ blank k = n - k
 
 loop-again : tie.Need-loop-again Inv-loop μ-loop
 loop-again c =
@@ -27,14 +27,13 @@ loop-again c =
     (omega arith, one-more p (l .k) _ _ _ t (l .inv .1) (c .both .ensures))
 
 returns : tie.Need-returns Inv-loop μ-loop
-unfolding tenZeros
 returns c =
     let l = c .before .loop in
-    let e : l .k ≡ 10 = omega arith in
+    let e : l .k ≡ c .before .before .args .n = omega arith in
     rw e at (l .inv .1)
 
-pub ten-zeros-spec : {M : Type 1} → statement M
-ten-zeros-spec =
+pub zeros-spec : {M : Type 1} → statement M
+zeros-spec =
     tie.close
     (tie.spec Inv-loop μ-loop (λ c. (omega arith, none-yet _)) (λ c. search needs) (λ c. search needs)
     (λ c. search needs) (λ c. search needs) (λ c κs. search needs) (λ c κs. search needs) (λ c. search needs)
