@@ -3,3 +3,5 @@ pub mod Onward
 pub mod Blocks
 pub mod Tens
 pub mod OneTurn
+pub mod Longer
+pub mod Whole

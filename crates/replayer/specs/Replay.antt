@@ -6,6 +6,8 @@ use mathlib.Core.List.{List, [], _∷_, _++_}
 use lib.Dec.{ltb}
 use lib.ListN.{length, take, drop}
 use lib.IntN.{ℤ, pos}
+use Rattle.item.specs.Said.{Said, gives, more, finish, refuses}
+use Rattle.state.specs.Reading.{Event, readCall, readerAfter}
 use Rattle.state.specs.declared.Reader.{Reader}
 use Rattle.many.specs.Many.{
   Seen,
@@ -82,3 +84,19 @@ pub record Turns (run : Run) (rows₀ tens₀ : List ℤ) (out₀ : List ℕ) (r
   pub out : out₁ ≡ runText run ++ drop (length (runText run)) out₀
   pub rows : rows₁ ≡ rowsFrom 0 (run .seen) rows₀
   pub tens : tens₁ ≡ tensFrom 0 (run .seen) tens₀
+
+-- ---- a whole body
+
+-- the line of what a call says, and the lines after it
+abbrev pub printed : Said Event → List ℤ → (ℕ → List ℕ) → List ℕ
+printed (gives e n) ten next = lineOf e ten ++ next n
+printed more ten next = lastLine TooLong
+printed (finish n) ten next = lastLine Finish
+printed (refuses k vs) ten next = plainLine refusedWord (pos k ∷ [])
+
+-- what the program prints of what is left of a body, in at most so many calls: each call sees the window at its place
+unfoldable pub replayFrom : ℕ → Reader → List ℕ → List ℕ
+replayFrom zero r body = []
+replayFrom (suc k) r body =
+    let t = readCall r (windowOf body) (isLast body) in
+    printed (t .said) (t .memory .input) (λ n. replayFrom k (readerAfter t) (drop n body))

@@ -41,7 +41,7 @@ number-steady : (v : Version) (s t : List ℕ) (i : IntRead) → isOut (afterNum
 number-steady v s t (ints.Got z n r) e = of-steady v s t z n (sort-of v z) e
 number-steady v s t ints.RunsOut e = refl
 
-kind-steady : (v : Version) → Steady isOut (readKind v)
+pub kind-steady : (v : Version) → Steady isOut (readKind v)
 unfolding readKind
 kind-steady v s t at e =
     rw (int-steady .0 s t at (int-had (afterNumber v s) refl (readInt s at) e)) (number-steady v s t (readInt s at) e)
@@ -75,7 +75,7 @@ content-had tag (got vs next) = refl
 content-had tag runsOut = refl
 content-had tag (refused r) = refl
 
-rest-steady : (k : Kind) (rest : Rest) → Steady isOut (λ s at. readAs s k rest at)
+pub rest-steady : (k : Kind) (rest : Rest) → Steady isOut (λ s at. readAs s k rest at)
 unfolding readEx
 rest-steady k (fields fs gs) s t at e =
     let x = readFields (fs ++ gs) s at in

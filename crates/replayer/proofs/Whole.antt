@@ -1,0 +1,197 @@
+-- A turn prints what the program prints from there on. Assumes nothing.
+use Prim.Native.Nat.{ℕ, zero, suc, _+_, _-_, _≤_, _<_}
+use mathlib.Core.Path.{_≡_, refl, sym, _∙_, ap}
+use mathlib.Core.Bool.{Bool, true, false, cond}
+use mathlib.Core.List.{List, [], _∷_, _++_, append-assoc, append-nil}
+use native.Mathlib.Omega.{arith}
+use borrow.Author.Tests.{lt-ltb, ltb-true, ltb-false}
+use lib.Dec.{ltb}
+use lib.ListN.{length, take, drop, length-take, length-drop, take-append-drop, drop-of-length-le}
+use lib.Seq.{take-all, take-append-add, drop-append-le, drop-drop}
+use lib.IntN.{ℤ, pos}
+use Rattle.num.proofs.Cases.{by-bool}
+use Rattle.item.specs.Said.{Said, gives, more, finish, refuses}
+use Rattle.state.specs.Reading.{Event, Step, readCall, readerAfter}
+use Rattle.state.specs.declared.Reader.{Reader}
+use Rattle.many.specs.Many.{Seen, Halt, isFull, wantsMore, finishes, isRefused, Run, seenBy, before, onSaid, stopped, calls}
+use Rattle.lines.specs.Lines.{lineOf, lastLine, plainLine, refusedWord}
+use Rattle.lines.specs.declared.Ending.the-variants.{Finish, TooLong}
+use Rattle.replayer.specs.Replay.{full, windowOf, isLast, textOf, ends, endingOf, runText, turnRun, printed, replayFrom}
+use Rattle.replayer.specs.Laws.{over, TurnReplays, turnsText, turnsEnd, AllPrinted, TurnsReplay}
+use Rattle.replayer.proofs.Longer.{NotMore, call-longer, more-leaves, uses-within}
+
+-- ---- the window of what is left of a body, of which a front w is at hand
+
+-- where the window is the last, all is at hand
+abbrev Fits : Bool → List ℕ → List ℕ → Type 0
+Fits true w z = (z ≡ []) × (length w < full)
+Fits false w z = length w ≤ full
+
+window-longer : (w z : List ℕ) → length w ≤ full → windowOf (w ++ z) ≡ w ++ take (full - length w) z
+window-longer w z h =
+    let e : full ≡ length w + (full - length w) = omega arith in
+    ap (λ (n : ℕ). take n (w ++ z)) e ∙ take-append-add w z (full - length w)
+
+same-call : (r : Reader) (w z : List ℕ) (last : Bool) → Fits last w z → NotMore (readCall r w last .said)
+    → readCall r (windowOf (w ++ z)) (isLast (w ++ z)) ≡ readCall r w last
+same-call r w z true f h =
+    let e : w ++ z ≡ w = ap (λ (l : List ℕ). w ++ l) (f .0) ∙ append-nil w in
+    rw (e, lt-ltb (length w) full (f .1), take-all full w (omega (arith, f .1)))
+same-call r w z false f h =
+    rw (window-longer w z f) (call-longer r w (take (full - length w) z) (isLast (w ++ z)) h)
+
+-- ---- one call of the program
+
+one-call : (k : ℕ) (r : Reader) (b : List ℕ) (t : Step) (a : Said Event) → readCall r (windowOf b) (isLast b) ≡ t → t .said ≡ a
+    → replayFrom (suc k) r b ≡ printed a (t .memory .input) (λ n. replayFrom k (readerAfter t) (drop n b))
+unfolding replayFrom
+one-call k r b t a e f =
+    ap (λ (u : Step). printed (u .said) (u .memory .input) (λ n. replayFrom k (readerAfter u) (drop n b))) e
+    ∙ ap (λ (c : Said Event). printed c (t .memory .input) (λ n. replayFrom k (readerAfter t) (drop n b))) f
+
+-- ---- calls on what is at hand
+
+-- what is printed behind the lines of a run's events
+abbrev tailOf : Halt → List ℕ → List ℕ
+tailOf isFull next = next
+tailOf wantsMore next = next
+tailOf finishes next = lastLine Finish
+tailOf (isRefused k vs) next = plainLine refusedWord (pos k ∷ [])
+
+abbrev Follows : ℕ → Reader → List ℕ → Run → Type 0
+Follows k r b run =
+    replayFrom (length (run .seen) + suc k) r b
+    ≡ textOf (run .seen) ++ tailOf (run .halt) (replayFrom (suc k) (run .reader) (drop (run .used) b))
+
+fits-on : (last : Bool) (w z : List ℕ) (n : ℕ) → Fits last w z → Fits last (drop n w) z
+fits-on true w z n f = (f .0, omega (arith, length-drop n w, f .1))
+fits-on false w z n f = omega (arith, length-drop n w)
+
+module _ (k : ℕ) (r : Reader) (w z : List ℕ) (last : Bool) (f : Fits last w z) where
+  abbrev t : Step
+  t = readCall r w last
+
+  abbrev b : List ℕ
+  b = w ++ z
+
+  zero-first : 0 + suc k ≡ suc k
+  zero-first = omega arith
+
+  an-event : (e : Event) (m : ℕ) → t .said ≡ gives e m → (rest : Run) → Follows k (readerAfter t) (drop m w ++ z) rest
+      → Follows k r b (before (seenBy r t e m) rest)
+  unfolding textOf
+  an-event e m s rest h =
+      let c = one-call (length (rest .seen) + suc k) r b t (gives e m) (same-call r w z last f (rw s tt)) s in
+      let q : suc (length (rest .seen)) + suc k ≡ suc (length (rest .seen) + suc k) = omega arith in
+      let d : drop m b ≡ drop m w ++ z = drop-append-le m w z (uses-within r w last e m s) in
+      let g : drop (m + rest .used) b ≡ drop (rest .used) (drop m w ++ z) =
+      sym (drop-drop (rest .used) m b) ∙ ap (drop (rest .used)) d in
+      let ten = t .memory .input in
+      rw (q, g)
+      (c ∙ ap (λ (l : List ℕ). lineOf e ten ++ replayFrom (length (rest .seen) + suc k) (readerAfter t) l) d
+      ∙ ap (λ (l : List ℕ). lineOf e ten ++ l) h
+      ∙ sym (append-assoc (lineOf e ten) (textOf (rest .seen)) _))
+
+  no-event : (a : Said Event) → t .said ≡ a → (next : Event → ℕ → Run) → ((e : Event) (m : ℕ) → t .said ≡ gives e m → Follows k r b (next e m))
+      → Follows k r b (onSaid a next (readerAfter t))
+  unfolding textOf
+  no-event (gives e m) s next g = g e m s
+  no-event more s next g = rw (zero-first, more-leaves r w last s)
+  no-event (finish m) s next g = rw zero-first (one-call k r b t (finish m) (same-call r w z last f (rw s tt)) s)
+  no-event (refuses j vs) s next g = rw zero-first (one-call k r b t (refuses j vs) (same-call r w z last f (rw s tt)) s)
+
+follows : (n k : ℕ) (r : Reader) (w z : List ℕ) (last : Bool) → Fits last w z → Follows k r (w ++ z) (calls n r w last)
+unfolding calls textOf
+follows zero k r w z last f = let e : 0 + suc k ≡ suc k = omega arith in rw e
+follows (suc n) k r w z last f =
+    let t = readCall r w last in
+    no-event k r w z last f (t .said) refl _
+    (λ e m s. an-event k r w z last f e m s (calls n (readerAfter t) (drop m w) last)
+    (follows n k (readerAfter t) (drop m w) z last (fits-on last w z m f)))
+
+-- ---- a turn
+
+start-fits : (body : List ℕ) → Fits (isLast body) (take full body) (drop full body)
+start-fits body =
+    let l = length-take full body in
+    by-bool (ltb (length body) full)
+    (λ t. let h = ltb-true (length body) full t in rw t (let g : length body ≤ full = omega arith in (drop-of-length-le body g, omega arith)))
+    (λ t. rw t (omega arith))
+
+-- no event, and more: the first call says so
+of-said : (a : Said Event) (next : Event → ℕ → Run) (x : Event → ℕ → Seen) (left : Reader)
+    → onSaid a (λ e m. before (x e m) (next e m)) left .halt ≡ wantsMore → length (onSaid a (λ e m. before (x e m) (next e m)) left .seen) ≡ 0
+    → a ≡ more
+of-said (gives e m) next x left h l = absurd (omega arith)
+of-said more next x left h l = refl
+of-said (finish m) next x left h l = let z : _≡_ {A = ℕ} 0 1 = cc in absurd (omega arith)
+of-said (refuses k vs) next x left h l = let z : _≡_ {A = ℕ} 0 1 = cc in absurd (omega arith)
+
+first-more : (n : ℕ) (r : Reader) (w : List ℕ) (last : Bool) → calls (suc n) r w last .halt ≡ wantsMore
+    → length (calls (suc n) r w last .seen) ≡ 0 → readCall r w last .said ≡ more
+unfolding calls
+first-more n r w last h e =
+    let t = readCall r w last in
+    of-said (t .said) (λ e m. calls n (readerAfter t) (drop m w) last) (λ e m. seenBy r t e m) (readerAfter t) h e
+
+-- the last line, or what the next turn prints
+join : (h : Halt) (c : ℕ) (text next all : List ℕ) → all ≡ text ++ tailOf h next → (h ≡ wantsMore → c ≡ 0 → all ≡ text ++ lastLine TooLong)
+    → all ≡ (text ++ endingOf h c) ++ cond (ends h c) [] next
+join isFull c text next all e f = e ∙ ap (λ (l : List ℕ). l ++ next) (sym (append-nil text))
+join wantsMore zero text next all e f = f refl refl ∙ sym (append-nil (text ++ lastLine TooLong))
+join wantsMore (suc c) text next all e f = e ∙ ap (λ (l : List ℕ). l ++ next) (sym (append-nil text))
+join finishes c text next all e f = e ∙ sym (append-nil (text ++ lastLine Finish))
+join (isRefused k vs) c text next all e f = e ∙ sym (append-nil (text ++ plainLine refusedWord (pos k ∷ [])))
+
+no-text : (xs : List Seen) → length xs ≡ 0 → textOf xs ≡ []
+unfolding textOf
+no-text [] e = refl
+no-text (x ∷ xs) e = absurd (omega arith)
+
+pub turn-replays : TurnReplays
+turn-replays n k r body =
+    let run = turnRun (suc n) r body in
+    let whole = take-append-drop full body in
+    let p = follows (suc n) k r (take full body) (drop full body) (isLast body) (start-fits body) in
+    join (run .halt) (length (run .seen)) (textOf (run .seen)) (replayFrom (suc k) (run .reader) (drop (run .used) body))
+    (replayFrom (length (run .seen) + suc k) r body)
+    (rw whole at p)
+    (λ h c.
+    let e : length (run .seen) + suc k ≡ suc k = omega arith in
+    rw (e, no-text (run .seen) c)
+    (one-call k r body (readCall r (windowOf body) (isLast body)) more refl (first-more n r (windowOf body) (isLast body) h c)))
+
+-- ---- turns one behind the other
+
+-- the first turn ends the replay
+over-at-once : (n : ℕ) (ns : List ℕ) (r : Reader) (body : List ℕ) → over (turnRun (suc n) r body) ≡ true
+    → AllPrinted r body (turnsText (n ∷ ns) r body)
+unfolding turnsText
+over-at-once n ns r body t =
+    let run = turnRun (suc n) r body in
+    record { calls = length (run .seen); same = λ k. turn-replays n k r body ∙ rw t }
+
+-- a later one does
+over-later : (n : ℕ) (ns : List ℕ) (r : Reader) (body : List ℕ) → over (turnRun (suc n) r body) ≡ false
+    → let run = turnRun (suc n) r body in let left = drop (run .used) body in
+    AllPrinted (run .reader) left (turnsText ns (run .reader) left) → AllPrinted r body (turnsText (n ∷ ns) r body)
+unfolding turnsText
+over-later n ns r body t a =
+    let run = turnRun (suc n) r body in
+    let left = drop (run .used) body in
+    record {
+      calls = length (run .seen) + a .calls;
+      same = λ k.
+          let e : length (run .seen) + a .calls + suc k ≡ length (run .seen) + suc (a .calls + k) = omega arith in
+          let f : suc (a .calls + k) ≡ a .calls + suc k = omega arith in
+          rw e (turn-replays n (a .calls + k) r body ∙ rw (t, f) (ap (λ (l : List ℕ). runText run ++ l) (a .same k)));
+    }
+
+pub turns-replay : TurnsReplay
+unfolding turnsEnd
+turns-replay [] r body h = let z : _≡_ {A = ℕ} 0 1 = cc in absurd (omega arith)
+turns-replay (n ∷ ns) r body h =
+    let run = turnRun (suc n) r body in
+    by-bool (over run)
+    (λ t. over-at-once n ns r body t)
+    (λ t. over-later n ns r body t (turns-replay ns (run .reader) (drop (run .used) body) (rw t at h)))
