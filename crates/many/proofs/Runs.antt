@@ -7,8 +7,10 @@ use native.Mathlib.Omega.{arith}
 use native.Mathlib.Numerals.{add-one}
 use lib.ListN.{length, drop}
 use lib.IntN.{ℤ, pos}
+use Rattle.refusal.specs.Numbers.{numberOf, valuesOf}
+use Rattle.refusal.specs.declared.Refusal.{Refusal}
 use Rattle.num.specs.Wrap.{wrap32}
-use Rattle.item.specs.Said.{Said}
+use Rattle.item.specs.Said.{Said, more, finish, refusing}
 use Rattle.state.specs.State.{Memory, goodReader}
 use Rattle.state.specs.Reading.{Event, Step, goodCall, readCall, readerAfter}
 use Rattle.state.specs.Views.{eventIs, saidIs, done, slimSaid, slimStep}
@@ -24,6 +26,9 @@ use Rattle.state.proofs.Theorems.{open-call-keeps, readers-stay-sound}
 use Rattle.many.specs.Many.{
   Seen,
   Halt,
+  wantsMore,
+  finishes,
+  isRefused,
   Run,
   isPending,
   seenBy,
@@ -45,7 +50,7 @@ use Rattle.many.specs.Many.{
 use Rattle.many.specs.Stores.{EventPut, readerWith}
 use Rattle.many.specs.declared.Stop.{Stop}
 use Rattle.many.proofs.Frame.{saidTens, Alike, good-alike}
-use Rattle.many.proofs.Slims.{slim-row, slim-tens, slim-used, Gave, gave}
+use Rattle.many.proofs.Slims.{slim-row, slim-tens, slim-used, Gave, gave, said-more, said-finish, said-refuses}
 
 -- ---- a run of which count events with used bytes are done, and rest is left
 
@@ -113,14 +118,14 @@ module _ (s : Scalars) (m : Memory) (w : List ℕ) (last : Bool) (sound : Sound 
     pub stays-sound : Sound (readerOf (o .scalars) m')
     stays-sound = rw left-is (readers-stay-sound (readerOf s m) w last sound)
 
-    pub said-is : slimSaid (readCall (readerOf s m) w last .said) ≡ saidIs (o .answer)
+    said-is : slimSaid (readCall (readerOf s m) w last .said) ≡ saidIs (o .answer)
     said-is = sym (ap (λ (t : Step). t .said) e ∙ ap slimSaid (call-alike .said))
 
     pub uses : usedIn (saidIs (o .answer)) ≤ length w
     uses = rw (ap (λ (t : Step). usedIn (t .said)) e ∙ slim-used (goodCall s m w last .said)) call-uses
 
     -- by what the call says
-    pub by-said : (k : ℕ) (x : Said Event) → readCall (readerOf s m) w last .said ≡ x → calls (suc k) (readerOf s m) w last
+    by-said : (k : ℕ) (x : Said Event) → readCall (readerOf s m) w last .said ≡ x → calls (suc k) (readerOf s m) w last
         ≡ onSaid x (λ d n. before (seenBy (readerOf s m) (readCall (readerOf s m) w last) d n) (calls k (readerOf (o .scalars) m') (drop n w) last))
         (readerOf (o .scalars) m')
     unfolding calls
@@ -128,6 +133,16 @@ module _ (s : Scalars) (m : Memory) (w : List ℕ) (last : Bool) (sound : Sound 
         λ i. onSaid (h i)
         (λ d n. before (seenBy (readerOf s m) (readCall (readerOf s m) w last) d n) (calls k (sym left-is i) (drop n w) last))
         (sym left-is i)
+
+    pub ends-more : (k : ℕ) → o .answer ≡ answers.More → calls (suc k) (readerOf s m) w last ≡ stopped wantsMore 0 (readerOf (o .scalars) m')
+    ends-more k a = by-said k more (said-more _ (said-is ∙ ap saidIs a))
+
+    pub ends-finish : (k n : ℕ) → o .answer ≡ answers.Finish n → calls (suc k) (readerOf s m) w last ≡ stopped finishes n (readerOf (o .scalars) m')
+    ends-finish k n a = by-said k (finish n) (said-finish _ n (said-is ∙ ap saidIs a))
+
+    pub ends-refused : (k : ℕ) (r : Refusal) → o .answer ≡ answers.Refused r
+        → calls (suc k) (readerOf s m) w last ≡ stopped (isRefused (numberOf r) (valuesOf r)) 0 (readerOf (o .scalars) m')
+    ends-refused k r a = by-said k (refusing r) (said-refuses _ _ _ (said-is ∙ ap saidIs a))
 
     module _ (v : code.Event) (n : ℕ) (a : o .answer ≡ answers.Event v n) where
       given : Gave (readCall (readerOf s m) w last .said) (eventIs v) n
@@ -154,7 +169,7 @@ module _ (s : Scalars) (m : Memory) (w : List ℕ) (last : Bool) (sound : Sound 
 
       pub goes-on : {run : Run} {count used : ℕ} {rows₀ tens₀ rows₁ tens₁ : List ℤ} (k : ℕ) (rows₂ tens₂ : List ℤ)
           → Behind run (calls (suc k) (readerOf s m) w last) count used rows₀ tens₀ rows₁ tens₁
-          → EventPut (eventIs v) (wrap32 (pos n)) (flag (isPending (s .pending))) count (m' .input) (m' .former) rows₁ tens₁ rows₂ tens₂
+          → EventPut (eventIs v) n (flag (isPending (s .pending))) count (m' .input) (m' .former) rows₁ tens₁ rows₂ tens₂
           → Behind run (calls k (readerOf (o .scalars) m') (drop n w) last) (count + 1) (used + n) rows₀ tens₀ rows₂ tens₂
       goes-on k rows₂ tens₂ b p =
           rw (p .rows, p .tens, ← row-is, ← tens-are) (one-more seen _ (rw (by-said k _ (given .said)) at b))

@@ -20,8 +20,7 @@ use Rattle.state.specs.declared.Outcome.{Outcome}
 use Rattle.many.specs.Many.{Run, isPending, calls, flag, Tells}
 use Rattle.many.specs.Stores.{EventPut}
 use Rattle.many.specs.declared.Stop.the-variants as stops
-use Rattle.many.proofs.Slims.{said-more, said-finish, said-refuses}
-use Rattle.many.proofs.Runs.{readerOf, Behind, begun, ended, said-is, uses, stays-sound, by-said, goes-on}
+use Rattle.many.proofs.Runs.{readerOf, Behind, begun, ended, stays-sound, uses, ends-more, ends-finish, ends-refused, goes-on}
 
 pub record Going (run : Run) (room : ℕ) (w : List ℕ) (last : Bool) (rows₀ tens₀ : List ℤ) (s : Scalars) (m : Memory) (count used : ℕ)
     (rows₁ tens₁ : List ℤ) : Type 0
@@ -79,7 +78,7 @@ module _ {run : Run} {room : ℕ} {w : List ℕ} {last : Bool} {rows₀ tens₀ 
         fits = omega (arith, uses s m (drop used w) last (g .sound) o m' call, length-drop used w, g .within)
 
         pub turn : (v : code.Event) (n : ℕ) (rows₂ tens₂ : List ℤ) → o .answer ≡ answers.Event v n
-            → EventPut (eventIs v) (wrap32 (pos n)) (flag (isPending (s .pending))) count (m' .input) (m' .former) rows₁ tens₁ rows₂ tens₂
+            → EventPut (eventIs v) n (flag (isPending (s .pending))) count (m' .input) (m' .former) rows₁ tens₁ rows₂ tens₂
             → length rows₂ ≡ length rows₁ → length tens₂ ≡ length tens₁
             → Going run room w last rows₀ tens₀ (o .scalars) m' (count + 1) (used + n) rows₂ tens₂
         unfolding left
@@ -96,17 +95,15 @@ module _ {run : Run} {room : ℕ} {w : List ℕ} {last : Bool} {rows₀ tens₀ 
         pub more : o .answer ≡ answers.More
             → Tells run rows₀ tens₀ (record { stop = stops.More; count = count; used = used; reader = readerOf (o .scalars) m' }) rows₁ tens₁
         more a =
-            ended stops.More _ 0 used _ refl (omega arith)
-            (rw (by-said s m (drop used w) last (g .sound) o m' call left _ (said-more _ (said-is s m (drop used w) last (g .sound) o m' call ∙ ap saidIs a))) at next)
+            ended stops.More _ 0 used _ refl (omega arith) (rw (ends-more s m (drop used w) last (g .sound) o m' call left a) at next)
 
         pub finish : (n : ℕ) → o .answer ≡ answers.Finish n
             → Tells run rows₀ tens₀ (record { stop = stops.Finish; count = count; used = used + n; reader = readerOf (o .scalars) m' }) rows₁ tens₁
         finish n a =
-            ended stops.Finish _ n (used + n) _ refl refl
-            (rw (by-said s m (drop used w) last (g .sound) o m' call left _ (said-finish _ n (said-is s m (drop used w) last (g .sound) o m' call ∙ ap saidIs a))) at next)
+            ended stops.Finish _ n (used + n) _ refl refl (rw (ends-finish s m (drop used w) last (g .sound) o m' call left n a) at next)
 
         pub refused : (r : Refusal) → o .answer ≡ answers.Refused r
             → Tells run rows₀ tens₀ (record { stop = stops.Refused r; count = count; used = used; reader = readerOf (o .scalars) m' }) rows₁ tens₁
         refused r a =
             ended (stops.Refused r) _ 0 used _ refl (omega arith)
-            (rw (by-said s m (drop used w) last (g .sound) o m' call left _ (said-refuses _ _ _ (said-is s m (drop used w) last (g .sound) o m' call ∙ ap saidIs a))) at next)
+            (rw (ends-refused s m (drop used w) last (g .sound) o m' call left r a) at next)

@@ -3,7 +3,8 @@ use Prim.Native.Nat.{ℕ, _*_, _≤_}
 use mathlib.Core.Path.{_≡_}
 use mathlib.Core.List.{List}
 use lib.ListN.{length}
-use lib.IntN.{ℤ}
+use lib.IntN.{ℤ, pos}
+use Rattle.num.specs.Wrap.{wrap32}
 use Rattle.state.specs.Reading.{Event}
 use Rattle.state.specs.declared.Entries.{Entries}
 use Rattle.state.specs.declared.Scalars.{Scalars}
@@ -18,9 +19,9 @@ pub record Room (n : ℕ) (rs ts : List ℤ) : Type 0 where
   pub rows : 8 * n ≤ length rs
   pub tens : 20 * n ≤ length ts
 
--- event i is in its places, used and pending being numbers of its row
-pub record EventPut (e : Event) (used pending : ℤ) (i : ℕ) (ten former rows₀ tens₀ rows₁ tens₁ : List ℤ) : Type 0 where
-  pub rows : rows₁ ≡ put rows₀ (8 * i) (eventRow e used pending)
+-- event i, whose call used so many bytes, is in its places
+pub record EventPut (e : Event) (used : ℕ) (pending : ℤ) (i : ℕ) (ten former rows₀ tens₀ rows₁ tens₁ : List ℤ) : Type 0 where
+  pub rows : rows₁ ≡ put rows₀ (8 * i) (eventRow e (wrap32 (pos used)) pending)
   pub tens : tens₁ ≡ put tens₀ (20 * i) (eventTens e ten former)
 
 abbrev pub readerWith : Scalars → Entries → Reader

@@ -81,9 +81,10 @@ fn flag_of(b: bool) -> i32
 }
 
 // Whether a kind is pending.
-fn pending_flag(pending: Pending) -> i32
-    ensures { λ r. ⌜ r ≡ flag (isPending pending) ⌝ }
+fn pending_flag(s: Scalars) -> i32
+    ensures { λ r. ⌜ r ≡ flag (isPending (s .pending)) ⌝ }
 {
+    let pending = s.pending;
     let Pending::Is(_) = pending else {
         return 0;
     };
@@ -147,10 +148,10 @@ fn put_tens(tens: &mut [i32], at: usize, input: [i32; 10], former: [i32; 10])
     put_ten(tens, at + 10, former);
 }
 
-// Event i in its places, used and pending as numbers of its row.
+// Event i in its places; used bytes, pending as a number of its row.
 fn put_event(
     event: Event,
-    used: i32,
+    used: usize,
     pending: i32,
     i: usize,
     rows: &mut [i32],
@@ -161,24 +162,25 @@ fn put_event(
     requires { ⌜ Room (i + 1) (now rows) (now tens) ⌝ }
     ensures { λ _. ⌜ EventPut (eventIs event) used pending i (now (input .entry)) (now (former .entry)) (now (rows .entry)) (now (tens .entry)) (now (rows .exit)) (now (tens .exit)) ⌝ }
 {
+    let n = wrapped(used);
     let at = 8 * i;
     match event {
-        Event::TickStart(t) => put_row(rows, at, 1, used, t, 0, 0, 0, 0),
-        Event::TickEnd(t) => put_row(rows, at, 2, used, t, 0, 0, 0, 0),
-        Event::PlayerNew { cid, x, y } => put_row(rows, at, 3, used, cid, x, y, 0, 0),
+        Event::TickStart(t) => put_row(rows, at, 1, n, t, 0, 0, 0, 0),
+        Event::TickEnd(t) => put_row(rows, at, 2, n, t, 0, 0, 0, 0),
+        Event::PlayerNew { cid, x, y } => put_row(rows, at, 3, n, cid, x, y, 0, 0),
         Event::PlayerChange {
             cid,
             x,
             y,
             old_x,
             old_y,
-        } => put_row(rows, at, 4, used, cid, x, y, old_x, old_y),
-        Event::PlayerOld { cid, x, y } => put_row(rows, at, 5, used, cid, x, y, 0, 0),
+        } => put_row(rows, at, 4, n, cid, x, y, old_x, old_y),
+        Event::PlayerOld { cid, x, y } => put_row(rows, at, 5, n, cid, x, y, 0, 0),
         Event::Input { cid, former: had } => {
-            put_row(rows, at, 6, used, cid, flag_of(had), 0, 0, 0);
+            put_row(rows, at, 6, n, cid, flag_of(had), 0, 0, 0);
             put_tens(tens, 20 * i, *input, *former);
         }
-        Event::Record(item) => put_record(item, used, pending, rows, at),
+        Event::Record(item) => put_record(item, n, pending, rows, at),
     }
 }
 
@@ -205,8 +207,7 @@ fn read_rows(
     let mut count: usize = 0;
     let mut used: usize = 0;
     while count < room {
-        let pending = s.pending;
-        let had = pending_flag(pending);
+        let pending = pending_flag(s);
         let o = step::good_call(
             s,
             &mut *marks,
@@ -226,8 +227,8 @@ fn read_rows(
             Answer::Event { event, used: n } => {
                 put_event(
                     event,
-                    wrapped(n),
-                    had,
+                    n,
+                    pending,
                     count,
                     &mut *rows,
                     &mut *tens,

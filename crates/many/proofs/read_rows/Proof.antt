@@ -29,83 +29,67 @@ loop-holds c =
 
 put-event-requires : tie.Need-put-event-requires Inv-loop μ-loop
 put-event-requires c κs =
-    let l = c .before .before .before .before .before .before .before .before .before .before .before .before .before .before .before .before .before .before .before .before .loop in
-    let test = c .before .before .before .before .before .before .before .before .before .before .before .before .before .before .before .before .before .before .before .loop-test .taken in
-    let pre = c .before .before .before .before .before .before .before .before .before .before .before .before .before .before .before .before .before .before .before .before .before .before .pre .1 in
-    record { rows = omega (arith, test, pre .rows, l .inv .rows); tens = omega (arith, test, pre .tens, l .inv .tens) }
+    let t = c .before .before .before .before .before .before .before .before .before .before .before .before .before .before .before .before .before .before in
+    let l = t .before .loop in
+    let pre = t .before .before .before .pre .1 in
+    record {
+      rows = omega (arith, t .loop-test .taken, pre .rows, l .inv .rows);
+      tens = omega (arith, t .loop-test .taken, pre .tens, l .inv .tens);
+    }
 
 add-used : tie.Need-add-used Inv-loop μ-loop
 add-used c =
-    let l = c .before .before .before .before .before .before .before .before .before .before .before .before .before .before .before .before .before .before .before .before .before .before .before .loop in
-    let test = c .before .before .before .before .before .before .before .before .before .before .before .before .before .before .before .before .before .before .before .before .before .before .loop-test .taken in
-    let o = c .before .before .before .before .before .before .before .before .before .before .before .before .good-call in
-    let k = o .last .1 in
-    let m = memory (k .0) (k .1 .0) (k .1 .1 .0) (k .1 .1 .1 .0) (k .1 .1 .1 .1 .0) (k .1 .1 .1 .1 .1 .0) (k .1 .1 .1 .1 .1 .1 .0) in
-    let g = c .before .before .before .before .before .before .before .before .before .answer .given in
-    let u = rw (g .1) at (fits (l .inv) test (o .result) m (o .ensures)) in
-    record { fits = omega (arith, u, c .before .before .before .before .before .before .before .before .before .before .before .before .before .before .before .before .before .before .before .before .before .before .before .before .before .good .1 .1 .1 .1 .1 .1 .1 .1 .0 .0) }
+    let o = c .before .before .before .before .before .before .before .before .before .before .before in
+    let t = o .before .before .before .before .before .before .before .before .before .before in
+    let u = rw (c .before .before .before .before .before .before .before .before .answer .given .1) at (fits (t .before .loop .inv) (t .loop-test .taken) (o .good-call .result) _ (o .good-call .ensures)) in
+    record { fits = omega (arith, u, t .before .before .before .good .1 .1 .1 .1 .1 .1 .1 .1 .0 .0) }
 
 add-count : tie.Need-add-count Inv-loop μ-loop
 add-count c =
-    let st = c .before .before .before .before .before .before .before .before .before .before .before .before .before .before .before .before .before .before .before .before .before .before .before .before .before in
-    record { fits = omega (arith, c .before .before .before .before .before .before .before .before .before .before .before .before .before .before .before .before .before .before .before .before .before .before .loop-test .taken, st .pre .1 .rows, st .good .1 .1 .1 .1 .1 .1 .1 .1 .1 .1 .0 .0) }
+    let t = c .before .before .before .before .before .before .before .before .before .before .before .before .before .before .before .before .before .before .before .before .before in
+    let st = t .before .before .before in
+    record { fits = omega (arith, t .loop-test .taken, st .pre .1 .rows, st .good .1 .1 .1 .1 .1 .1 .1 .1 .1 .1 .0 .0) }
 
 loop-less : tie.Need-loop-less Inv-loop μ-loop
-loop-less c = omega (arith, c .before .before .before .before .before .before .before .before .before .before .before .before .before .before .before .before .before .before .before .before .before .before .loop-test .taken)
+loop-less c = omega (arith, c .before .before .before .before .before .before .before .before .before .before .before .before .before .before .before .before .before .before .before .before .before .loop-test .taken)
 
 loop-again : tie.Need-loop-again Inv-loop μ-loop
 loop-again c =
-    let l = c .before .before .before .before .before .before .before .before .before .before .before .before .before .before .before .before .before .before .before .before .before .before .before .loop in
-    let test = c .before .before .before .before .before .before .before .before .before .before .before .before .before .before .before .before .before .before .before .before .before .before .loop-test .taken in
-    let o = c .before .before .before .before .before .before .before .before .before .before .before .before .good-call in
-    let k = o .last .1 in
-    let m = memory (k .0) (k .1 .0) (k .1 .1 .0) (k .1 .1 .1 .0) (k .1 .1 .1 .1 .0) (k .1 .1 .1 .1 .1 .0) (k .1 .1 .1 .1 .1 .1 .0) in
-    let g = c .before .before .before .before .before .before .before .before .before .answer .given in
-    let n = c .before .before .before .before .before .before .before .wrapped in
-    let p = c .before .before .before .before .before .before .before .before .before .before .before .before .before .before .before .before .before .before .before .before .before .pending-flag in
-    let i : toZ w32 (ofZ w32 (n .result)) ≡ n .result = search needs in
+    let o = c .before .before .before .before .before .before .before .before .before .before .before in
+    let t = o .before .before .before .before .before .before .before .before .before .before in
+    let g = c .before .before .before .before .before .before .before .before .answer .given in
+    let p = c .before .before .before .before .before .before .before .before .before .before .before .before .before .before .before .before .before .before .before .before .pending-flag in
     let j : toZ w32 (ofZ w32 (p .result)) ≡ p .result = search needs in
-    turn (l .inv) test (o .result) m (o .ensures) (g .0 .0) (g .0 .1 .0) _ _ (g .1)
-    (rw (i, n .ensures, j, p .ensures) at (c .before .before .put-event .ensures)) (c .before .rows .given) (c .tens .given)
+    turn (t .before .loop .inv) (t .loop-test .taken) (o .good-call .result) _ (o .good-call .ensures) (g .0 .0) (g .0 .1 .0) _ _ (g .1)
+    (rw (j, p .ensures) at (c .before .before .put-event .ensures)) (c .before .rows .given) (c .tens .given)
 
 returns : tie.Need-returns Inv-loop μ-loop
 returns c =
-    let l = c .before .before .before .before .before .before .before .before .before .before .before .before .before .before .before .loop in
-    let test = c .before .before .before .before .before .before .before .before .before .before .before .before .before .before .loop-test .taken in
-    let o = c .before .before .before .before .good-call in
-    let k = o .last .1 in
-    let m = memory (k .0) (k .1 .0) (k .1 .1 .0) (k .1 .1 .1 .0) (k .1 .1 .1 .1 .0) (k .1 .1 .1 .1 .1 .0) (k .1 .1 .1 .1 .1 .1 .0) in
-    rw (c .stopped .ensures) (more (l .inv) test (o .result) m (o .ensures) (c .before .enum-told .given .1))
+    let o = c .before .before .before .before in
+    let t = o .before .before .before .before .before .before .before .before .before .before in
+    rw (c .stopped .ensures)
+    (more (t .before .loop .inv) (t .loop-test .taken) (o .good-call .result) _ (o .good-call .ensures) (c .before .enum-told .given .1))
 
 add-stopped : tie.Need-add-stopped Inv-loop μ-loop
 add-stopped c =
-    let l = c .before .before .before .before .before .before .before .before .before .before .before .before .before .before .before .loop in
-    let test = c .before .before .before .before .before .before .before .before .before .before .before .before .before .before .loop-test .taken in
-    let o = c .before .before .before .before .good-call in
-    let k = o .last .1 in
-    let m = memory (k .0) (k .1 .0) (k .1 .1 .0) (k .1 .1 .1 .0) (k .1 .1 .1 .1 .0) (k .1 .1 .1 .1 .1 .0) (k .1 .1 .1 .1 .1 .1 .0) in
-    let u = rw (c .before .answer2 .given .1) at (fits (l .inv) test (o .result) m (o .ensures)) in
-    record { fits = omega (arith, u, c .before .before .before .before .before .before .before .before .before .before .before .before .before .before .before .before .before .good .1 .1 .1 .1 .1 .1 .1 .1 .0 .0) }
+    let o = c .before .before .before .before in
+    let t = o .before .before .before .before .before .before .before .before .before .before in
+    let u = rw (c .before .answer2 .given .1) at (fits (t .before .loop .inv) (t .loop-test .taken) (o .good-call .result) _ (o .good-call .ensures)) in
+    record { fits = omega (arith, u, t .before .before .before .good .1 .1 .1 .1 .1 .1 .1 .1 .0 .0) }
 
 returns-2 : tie.Need-returns-2 Inv-loop μ-loop
 returns-2 c =
-    let l = c .before .before .before .before .before .before .before .before .before .before .before .before .before .before .before .before .loop in
-    let test = c .before .before .before .before .before .before .before .before .before .before .before .before .before .before .before .loop-test .taken in
-    let o = c .before .before .before .before .before .good-call in
-    let k = o .last .1 in
-    let m = memory (k .0) (k .1 .0) (k .1 .1 .0) (k .1 .1 .1 .0) (k .1 .1 .1 .1 .0) (k .1 .1 .1 .1 .1 .0) (k .1 .1 .1 .1 .1 .1 .0) in
+    let o = c .before .before .before .before .before in
+    let t = o .before .before .before .before .before .before .before .before .before .before in
     let g = c .before .before .answer2 .given in
-    rw (c .stopped2 .ensures) (finish (l .inv) test (o .result) m (o .ensures) (g .0 .0) (g .1))
+    rw (c .stopped2 .ensures) (finish (t .before .loop .inv) (t .loop-test .taken) (o .good-call .result) _ (o .good-call .ensures) (g .0 .0) (g .1))
 
 returns-3 : tie.Need-returns-3 Inv-loop μ-loop
 returns-3 c =
-    let l = c .before .before .before .before .before .before .before .before .before .before .before .before .before .before .before .before .loop in
-    let test = c .before .before .before .before .before .before .before .before .before .before .before .before .before .before .before .loop-test .taken in
-    let o = c .before .before .before .before .before .good-call in
-    let k = o .last .1 in
-    let m = memory (k .0) (k .1 .0) (k .1 .1 .0) (k .1 .1 .1 .0) (k .1 .1 .1 .1 .0) (k .1 .1 .1 .1 .1 .0) (k .1 .1 .1 .1 .1 .1 .0) in
+    let o = c .before .before .before .before .before in
+    let t = o .before .before .before .before .before .before .before .before .before .before in
     let g = c .before .before .answer3 .given in
-    rw (c .stopped3 .ensures) (refused (l .inv) test (o .result) m (o .ensures) (g .0 .0) (g .1))
+    rw (c .stopped3 .ensures) (refused (t .before .loop .inv) (t .loop-test .taken) (o .good-call .result) _ (o .good-call .ensures) (g .0 .0) (g .1))
 
 returns-4 : tie.Need-returns-4 Inv-loop μ-loop
 returns-4 c = rw (c .stopped4 .ensures) (full (c .before .before .loop .inv) (c .before .loop-test .left))
@@ -113,9 +97,8 @@ returns-4 c = rw (c .stopped4 .ensures) (full (c .before .before .loop .inv) (c 
 pub read-rows-spec : {M : Type 1} → statement M
 read-rows-spec =
     tie.close
-    (tie.spec Inv-loop μ-loop loop-holds (λ c κs. tt) (λ c. search needs) (λ c. search needs) (λ c. search needs)
-    (λ c κs. tt) (λ c. search needs) (λ c κs. tt) put-event-requires add-used add-count loop-less loop-again
-    (λ c. search needs) (λ c κs. tt)
+    (tie.spec Inv-loop μ-loop loop-holds (λ c κs. tt) (λ c. search needs) (λ c. search needs) (λ c. search needs) (λ c κs. tt)
+    (λ c. search needs) put-event-requires add-used add-count loop-less loop-again (λ c. search needs) (λ c κs. tt)
     (λ c. c .before .before .before .before .before .before .before .before .before .before .before .before .before .before .before .loop .inv .rows)
     (λ c. c .before .before .before .before .before .before .before .before .before .before .before .before .before .before .before .loop .inv .tens)
     returns (λ c. search needs) add-stopped (λ c κs. tt)
