@@ -3,7 +3,7 @@ ghost use mathlib.Core.Path.{_≡_};
 ghost use Prim.Native.Nat.{_<_};
 ghost use lib.ListN.{length};
 ghost use lib.Signed.{mag};
-ghost use Rattle.varint.specs.Integers.{digits, amount, valueOf, isLast, remarkOf, readInt};
+ghost use Rattle.varint.specs.Integers.{digits, amount, signOf, valueOf, isLast, remarkOf, readInt};
 ghost use Rattle.varint.specs.Written.{
   signBit,
   extend,
@@ -93,8 +93,8 @@ fn is_last(k: usize, b: u8) -> bool
     if k == 4 { true } else { b < 128 }
 }
 
-// The integer at a place of the window.
-pub fn read_int(s: &[u8], at: usize) -> IntRead
+// The integer at a place of the window, byte by byte.
+fn read_bytes(s: &[u8], at: usize) -> IntRead
     ensures { λ r. ⌜ r ≡ readInt (now (s .entry)) at ⌝ }
 {
     if s.len() <= at {
@@ -118,6 +118,32 @@ pub fn read_int(s: &[u8], at: usize) -> IntRead
         i += 1;
     }
     IntRead::RunsOut
+}
+
+// The integer of one byte that does not extend.
+fn short_value(b: u8) -> i32
+    requires { ⌜ b < 128 ⌝ }
+    ensures { λ r. ⌜ r ≡ valueOf (signOf b) (amount 0 b) ⌝ }
+{
+    value_of(b / 64, (b % 64) as u32)
+}
+
+// The integer at a place of the window. Most have one byte, and that byte says so.
+pub fn read_int(s: &[u8], at: usize) -> IntRead
+    ensures { λ r. ⌜ r ≡ readInt (now (s .entry)) at ⌝ }
+{
+    if s.len() <= at {
+        return IntRead::RunsOut;
+    }
+    let b = s[at];
+    if b < 128 {
+        return IntRead::Got {
+            value: short_value(b),
+            next: at + 1,
+            remark: Remark::None,
+        };
+    }
+    read_bytes(s, at)
 }
 
 // The number without its sign: all 32 bits inverted where it is negative.
