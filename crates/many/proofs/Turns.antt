@@ -1,14 +1,13 @@
 -- The loop over the calls: its invariant, one turn, each way to stop. Assumes nothing.
 use Prim.Native.Nat.{ℕ, suc, _+_, _-_, _≤_, _<_}
-use mathlib.Core.Path.{_≡_, refl, ap, _∙_}
+use mathlib.Core.Path.{_≡_, refl, _∙_}
 use mathlib.Core.Bool.{Bool}
 use mathlib.Core.List.{List}
 use native.Mathlib.Omega.{arith}
 use lib.ListN.{length, take, drop, length-drop}
 use lib.Seq.{take-all, drop-drop}
-use lib.IntN.{ℤ, pos}
+use lib.IntN.{ℤ}
 use Rattle.refusal.specs.declared.Refusal.{Refusal}
-use Rattle.num.specs.Wrap.{wrap32}
 use Rattle.state.specs.State.{Memory}
 use Rattle.state.specs.Reading.{goodCall}
 use Rattle.state.specs.Views.{eventIs, saidIs, done, slimStep}

@@ -144,7 +144,7 @@ fn put_tens(tens: &mut [i32], at: usize, input: [i32; 10], former: [i32; 10])
     requires { ⌜ at + 20 ≤ length (now tens) ⌝ }
     ensures { λ _. ⌜ now (tens .exit) ≡ put (now (tens .entry)) at (input ++ former) ⌝ }
 {
-    put_ten(&mut *tens, at, input);
+    put_ten(tens, at, input);
     put_ten(tens, at + 10, former);
 }
 
@@ -210,13 +210,13 @@ fn read_rows(
         let pending = pending_flag(s);
         let o = step::good_call(
             s,
-            &mut *marks,
-            &mut *xs,
-            &mut *ys,
-            &mut *held,
-            &mut *inputs,
-            &mut *input,
-            &mut *former,
+            marks,
+            xs,
+            ys,
+            held,
+            inputs,
+            input,
+            former,
             &w[used..],
             last,
         );
@@ -225,16 +225,7 @@ fn read_rows(
         s = next;
         match answer {
             Answer::Event { event, used: n } => {
-                put_event(
-                    event,
-                    n,
-                    pending,
-                    count,
-                    &mut *rows,
-                    &mut *tens,
-                    &*input,
-                    &*former,
-                );
+                put_event(event, n, pending, count, rows, tens, input, former);
                 used += n;
                 count += 1;
             }
