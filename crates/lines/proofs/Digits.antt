@@ -1,14 +1,14 @@
 -- Laws of a number's digits. Assumes nothing.
-use Prim.Native.Nat.{ℕ, zero, suc, _+_, _-_, _/_, _%_, _^_, _≤_, _<_}
+use Prim.Native.Nat.{ℕ, zero, suc, _+_, _/_, _%_, _^_, _≤_, _<_}
 use mathlib.Core.Path.{_≡_, refl, sym, _∙_, ap}
 use mathlib.Core.Bool.{Bool, true, false, cond}
-use mathlib.Core.List.{List, [], _∷_, _++_}
+use mathlib.Core.List.{List, [], _∷_, _++_, append-assoc}
 use native.Mathlib.Omega.{arith}
-use native.Mathlib.Nat.{pow-suc, add-zero}
-use lib.ListN.{length, length-append, set}
-use lib.Seq.{sets, set-comm}
+use native.Mathlib.Nat.{pow-suc}
+use lib.ListN.{length}
 use lib.Dec.{ltb}
 use borrow.Author.Tests.{lt-ltb, le-ltb}
+use Rattle.packer.proofs.Joined.{Put, first-fits, next-fits, two-puts}
 use Rattle.lines.specs.Lines.{digits, natural}
 
 cond-append : (t : Bool) (x y b : List ℕ) → cond t x y ++ b ≡ cond t (x ++ b) (y ++ b)
@@ -56,48 +56,41 @@ natural-more n h f =
     let d = (48 + n % 10) ∷ [] in
     rw t (digits-before 9 (n / 10) [] d ∙ ap (λ (a : List ℕ). a ++ d) (steady 8 (n / 10) [] (omega arith)))
 
-pub natural-longer : (n : ℕ) → 9 < n → n < 4294967296 → length (natural n) ≡ length (natural (n / 10)) + 1
-natural-longer n h f = ap length (natural-more n h f) ∙ length-append (natural (n / 10)) ((48 + n % 10) ∷ [])
+-- the two digits of a number below 100, a 0 before one that has only one; the four of a number below 10000
+abbrev pub pair : ℕ → List ℕ
+pair n = (48 + n / 10) ∷ (48 + n % 10) ∷ []
 
-some-power : (k : ℕ) → 1 ≤ 10 ^ k
-some-power zero = omega arith
-some-power (suc k) = omega (arith, pow-suc 10 k, some-power k)
+abbrev pub pairs : ℕ → List ℕ
+pairs n = pair (n / 100) ++ pair (n % 100)
 
--- by the power of ten at or below it
-pub count-from : (k n : ℕ) → 10 ^ k ≤ n → n < 10 ^ suc k → n < 4294967296 → suc k ≡ length (natural n)
-count-from zero n l h f = sym (ap length (natural-one n (omega (arith, pow-suc 10 0))))
-count-from (suc k) n l h f =
-    let p = pow-suc 10 k in
-    let q = pow-suc 10 (suc k) in
-    let some = some-power k in
-    omega (arith, count-from k (n / 10) (omega arith) (omega arith) (omega arith), natural-longer n (omega arith) f)
+pub natural-two : (n : ℕ) → 9 < n → n < 100 → natural n ≡ pair n
+natural-two n h k = natural-more n h (omega arith) ∙ rw (natural-one (n / 10) (omega arith))
 
-pub two-longer : (n : ℕ) → 99 < n → n < 4294967296 → length (natural n) ≡ length (natural (n / 100)) + 2
-two-longer n h f =
+pub natural-pair : (n : ℕ) → 99 < n → n < 4294967296 → natural n ≡ natural (n / 100) ++ pair (n % 100)
+natural-pair n h f =
     let a : n / 10 / 10 ≡ n / 100 = omega arith in
-    rw (← a) (omega (arith, natural-longer n (omega arith) f, natural-longer (n / 10) (omega arith) (omega arith)))
+    let b : n / 10 % 10 ≡ n % 100 / 10 = omega arith in
+    let c : n % 10 ≡ n % 100 % 10 = omega arith in
+    natural-more n (omega arith) f ∙ rw (natural-more (n / 10) (omega arith) (omega arith), append-assoc, a, b, c)
 
--- bytes of which the last one is put first
-pub sets-last : (a l : List ℕ) (at d : ℕ) → sets l at (a ++ (d ∷ [])) ≡ sets (set l (at + length a) d) at a
-sets-last [] l at d = rw add-zero
-sets-last (x ∷ a) l at d =
-    let e : suc at + length a ≡ at + suc (length a) = omega arith in
-    sets-last a (set l at x) (suc at) d ∙ rw e (ap (λ (m : List ℕ). sets m (suc at) a) (set-comm l at (at + suc (length a)) x d (λ p. omega arith)))
+pub natural-pairs : (n : ℕ) → 9999 < n → n < 4294967296 → natural n ≡ natural (n / 10000) ++ pairs (n % 10000)
+natural-pairs n h f =
+    let a : n / 100 / 100 ≡ n / 10000 = omega arith in
+    let b : n / 100 % 100 ≡ n % 10000 / 100 = omega arith in
+    let c : n % 100 ≡ n % 10000 % 100 = omega arith in
+    natural-pair n (omega arith) f ∙ rw (natural-pair (n / 100) (omega arith) (omega arith), append-assoc, a, b, c)
 
-pub put-last : (out : List ℕ) (at n : ℕ) → 9 < n → n < 4294967296 → (i : ℕ) → at + length (natural n) ≡ suc i → (d : ℕ) → d ≡ 48 + n % 10
-    → sets (set out i d) at (natural (n / 10)) ≡ sets out at (natural n)
-put-last out at n h f i e d q =
-    let p : i ≡ at + length (natural (n / 10)) = omega (arith, natural-longer n h f) in
-    rw (natural-more n h f, p, q) (sym (sets-last (natural (n / 10)) out at (48 + n % 10)))
+-- a number put as a shorter one and the digits behind it
+module _ (xs : List ℕ) (at n high : ℕ) (low : List ℕ) (e : natural n ≡ natural high ++ low) (fits : at + length (natural n) ≤ length xs) where
+  split : at + length (natural high ++ low) ≤ length xs
+  split = rw e at fits
 
--- two digits
-pub put-two : (out : List ℕ) (at n : ℕ) → 99 < n → n < 4294967296 → (i : ℕ) → i ≡ at + length (natural n)
-    → sets (set (set out (i - 1) (48 + n % 100 % 10)) (i - 2) (48 + n % 100 / 10)) at (natural (n / 100)) ≡ sets out at (natural n)
-put-two out at n h f i e =
-    let a : n / 10 / 10 ≡ n / 100 = omega arith in
-    let b : n % 100 % 10 ≡ n % 10 = omega arith in
-    let c : n % 100 / 10 ≡ n / 10 % 10 = omega arith in
-    let l = natural-longer n (omega arith) f in
-    let m = natural-longer (n / 10) (omega arith) (omega arith) in
-    let p = put-last (set out (i - 1) (48 + n % 10)) at (n / 10) (omega arith) (omega arith) (i - 2) (omega arith) _ refl in
-    rw (← a, b, c) (p ∙ put-last out at n (omega arith) f (i - 1) (omega arith) _ refl)
+  pub high-fits : at + length (natural high) ≤ length xs
+  high-fits = first-fits xs at (natural high) low split
+
+  module _ (next : ℕ) (ys : List ℕ) (p : Put xs at (natural high) next ys) where
+    pub low-fits : next + length low ≤ length ys
+    low-fits = next-fits xs at (natural high) low split next ys p
+
+    pub low-put : (m : ℕ) (zs : List ℕ) → Put ys next low m zs → Put xs at (natural n) m zs
+    low-put m zs q = rw e (two-puts xs at (natural high) low split next ys p m zs q)

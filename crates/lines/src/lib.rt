@@ -1,7 +1,7 @@
 // The lines of the replay program, written into a lent buffer at a place.
 ghost use mathlib.Core.Path.{_≡_};
-ghost use Prim.Native.Nat.{_+_, _*_, _≤_};
-ghost use mathlib.Core.List.{_∷_, _++_};
+ghost use Prim.Native.Nat.{_+_, _*_, _/_, _%_, _≤_, _<_};
+ghost use mathlib.Core.List.{[], _∷_, _++_};
 ghost use lib.Dec.{leb};
 ghost use lib.ListN.{length};
 ghost use Rattle.lines.specs.Lines.{
@@ -35,62 +35,73 @@ pub enum Ending {
     TooLong,
 }
 
-// How many digits n has.
-fn digit_count(n: u32) -> usize
-    ensures { λ r. ⌜ r ≡ length (natural n) ⌝ }
+// The two digits of a number below 100, a 0 before one that has only one.
+fn put_pair(n: u32, out: &mut [u8], at: usize) -> usize
+    requires { ⌜ (n < 100) × (at + 2 ≤ length (now out)) ⌝ }
+    ensures { λ r. ⌜ Puts (now (out .entry)) at ((48 + n / 10) ∷ (48 + n % 10) ∷ []) r (now (out .exit)) ⌝ }
 {
-    if n < 10 {
-        return 1;
-    }
-    if n < 100 {
-        return 2;
-    }
-    if n < 1000 {
-        return 3;
-    }
-    if n < 10000 {
-        return 4;
-    }
-    if n < 100000 {
-        return 5;
-    }
-    if n < 1000000 {
-        return 6;
-    }
-    if n < 10000000 {
-        return 7;
-    }
-    if n < 100000000 {
-        return 8;
-    }
-    if n < 1000000000 {
-        return 9;
-    }
-    10
+    // two bytes as one number: the compiler stores them at once
+    let both = 12336 + 256 * (n % 10) + n / 10;
+    out[at] = (both % 256) as u8;
+    out[at + 1] = (both / 256) as u8;
+    at + 2
 }
 
-// The digits of n, the last ones first and two at a time: the place past them.
+// A number below 100.
+fn put_two(n: u32, out: &mut [u8], at: usize) -> usize
+    requires { ⌜ (n < 100) × (at + length (natural n) ≤ length (now out)) ⌝ }
+    ensures { λ r. ⌜ Puts (now (out .entry)) at (natural n) r (now (out .exit)) ⌝ }
+{
+    if 9 < n {
+        return put_pair(n, out, at);
+    }
+    out[at] = 48 + n as u8;
+    at + 1
+}
+
+// A number below 10000.
+fn put_four(n: u32, out: &mut [u8], at: usize) -> usize
+    requires { ⌜ (n < 10000) × (at + length (natural n) ≤ length (now out)) ⌝ }
+    ensures { λ r. ⌜ Puts (now (out .entry)) at (natural n) r (now (out .exit)) ⌝ }
+{
+    if 99 < n {
+        let next = put_two(n / 100, out, at);
+        return put_pair(n % 100, out, next);
+    }
+    put_two(n, out, at)
+}
+
+// A number below 1000000.
+fn put_six(n: u32, out: &mut [u8], at: usize) -> usize
+    requires { ⌜ (n < 1000000) × (at + length (natural n) ≤ length (now out)) ⌝ }
+    ensures { λ r. ⌜ Puts (now (out .entry)) at (natural n) r (now (out .exit)) ⌝ }
+{
+    if 9999 < n {
+        let next = put_four(n / 100, out, at);
+        return put_pair(n % 100, out, next);
+    }
+    put_four(n, out, at)
+}
+
+// Two pairs: the four digits of a number below 10000.
+fn put_pairs(n: u32, out: &mut [u8], at: usize) -> usize
+    requires { ⌜ (n < 10000) × (at + 4 ≤ length (now out)) ⌝ }
+    ensures { λ r. ⌜ Puts (now (out .entry)) at ((48 + n / 100 / 10) ∷ (48 + n / 100 % 10) ∷ (48 + n % 100 / 10) ∷ (48 + n % 100 % 10) ∷ []) r (now (out .exit)) ⌝ }
+{
+    let next = put_pair(n / 100, out, at);
+    put_pair(n % 100, out, next)
+}
+
+// The digits of n.
 fn put_natural(n: u32, out: &mut [u8], at: usize) -> usize
     requires { ⌜ at + length (natural n) ≤ length (now out) ⌝ }
     ensures { λ r. ⌜ Puts (now (out .entry)) at (natural n) r (now (out .exit)) ⌝ }
 {
-    let end = at + digit_count(n);
-    let mut i = end;
-    let mut rest = n;
-    while 99 < rest {
-        let two = rest % 100;
-        out[i - 1] = 48 + (two % 10) as u8;
-        out[i - 2] = 48 + (two / 10) as u8;
-        i -= 2;
-        rest = rest / 100;
+    if 9999 < n {
+        let next = put_six(n / 10000, out, at);
+        return put_pairs(n % 10000, out, next);
     }
-    if 9 < rest {
-        out[at + 1] = 48 + (rest % 10) as u8;
-        out[at] = 48 + (rest / 10) as u8;
-        return end;
-    }
-    out[at] = 48 + rest as u8;
-    end
+    put_four(n, out, at)
 }
 
 // A space and a number.
