@@ -1,15 +1,15 @@
 -- Tests of entries by blocks: a block behind the first entries, ten numbers for each entry of a block, a block with no marks. Assumes
 -- nothing.
-use Prim.Native.Nat.{ℕ, zero, suc, _+_, _*_, _<_}
-use mathlib.Core.Path.{_≡_, refl, sym, ap, _∙_}
-use mathlib.Core.Bool.{Bool, true, false, cond, _&&_}
+use Prim.Native.Nat.{ℕ, zero, suc, _+_, _*_}
+use mathlib.Core.Path.{_≡_, refl}
+use mathlib.Core.Bool.{Bool, true, false, _&&_}
 use mathlib.Core.List.{List}
 use native.Mathlib.Omega.{arith}
 use lib.ListN.{getD}
 use lib.Dec.{eqb}
-use lib.IntN.{ℤ, pos}
+use lib.IntN.{ℤ}
 use borrow.Author.Tests.{eqb-true}
-use Rattle.state.specs.State.{same, every, goodEntry, zeroAt, tenZeros, goodInput}
+use Rattle.state.specs.State.{every, goodEntry, zeroAt, tenZeros, goodInput}
 use Rattle.state.proofs.Every.{left-of, right-of}
 use Rattle.good.specs.Blocks.{from, noMark}
 

@@ -5,7 +5,7 @@ use mathlib.Core.List.{List}
 use lib.ListN.{getD}
 use lib.Dec.{eqb}
 
--- the client's number in the block, for the test of a client
+-- the test of the client at a place of the block that begins at c
 abbrev pub from : ℕ → (ℕ → Bool) → ℕ → Bool
 from c p k = p (c + k)
 

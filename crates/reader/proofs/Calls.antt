@@ -1,11 +1,11 @@
 -- A call on a reader by the tests that the code makes. Assumes nothing.
 use Prim.Native.Nat.{ℕ}
 use mathlib.Core.Path.{_≡_, refl, sym, subst, _∙_}
-use mathlib.Core.Bool.{Bool, true, false, not, cond, _&&_}
+use mathlib.Core.Bool.{Bool, true, false, not, cond}
 use mathlib.Core.List.{List}
 use Rattle.refusal.specs.declared.Refusal.the-variants.{BadState, Closed}
 use Rattle.item.specs.Said.{refusing}
-use Rattle.state.specs.State.{goodScalars, goodEntries, goodReader}
+use Rattle.state.specs.State.{goodReader}
 use Rattle.state.specs.Reading.{Step, step, openCall, goodCall, memoryOf, readCall}
 use Rattle.state.specs.declared.Reader.{Reader}
 use Rattle.reader.specs.Answers.{Tells}
@@ -20,10 +20,6 @@ off false x e h = sym e
 pub on : (b x : Bool) → b ≡ x → not b ≡ false → x ≡ true
 on true x e h = sym e
 on false x e h = sym e ∙ sym h
-
-pub tested : (r : Reader) (a b t : Bool) → a ≡ goodScalars (r .scalars) → b ≡ goodEntries (r .entries) → t ≡ (a && b) → t ≡ goodReader r
-unfolding goodReader
-tested r a b t ea eb et = rw (et, ea, eb)
 
 -- the same call by another name
 pub renamed : {t u : Step} {r : ReadAnswer} → t ≡ u → Tells t r → Tells u r

@@ -95,9 +95,12 @@ isRecord answers.More = false
 isRecord (answers.Finish used) = false
 isRecord (answers.Refused r) = false
 
+abbrev pub readerWith : Scalars → Entries → Reader
+readerWith s e = record { scalars = s; entries = e }
+
 abbrev pub readAnswer : Answer → Scalars → Entries → List ℤ → List ℤ → Args → ReadAnswer
 readAnswer a s e ten former xs =
-    record { answer = a; reader = record { scalars = s; entries = e }; input = ten; former = former; args = xs }
+    record { answer = a; reader = readerWith s e; input = ten; former = former; args = xs }
 
 -- what a call says, the reader that it leaves, the ten numbers and the former ten, and no arguments but a command's
 pub record Tells (t : Step) (r : ReadAnswer) : Type 0 where

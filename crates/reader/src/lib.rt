@@ -12,6 +12,7 @@ ghost use Rattle.reader.specs.Answers.{
   isRecord,
   isCommand,
   ArgsFor,
+  readerWith,
   readAnswer,
   Tells,
   ReadIs,
@@ -52,13 +53,36 @@ pub struct InputOf {
     pub input: [i32; 10],
 }
 
+fn good_state<'a>(
+    s: Scalars,
+    marks: &'a [u8; 128],
+    xs: &'a [i32; 128],
+    ys: &'a [i32; 128],
+    held: &'a [u8; 128],
+    inputs: &'a [i32; 1280],
+) -> bool
+    ensures { λ r. ⌜ r ≡ goodReader (readerWith s (entriesWith (now (marks .entry)) (now (xs .entry)) (now (ys .entry)) (now (held .entry)) (now (inputs .entry)))) ⌝ }
+{
+    good::both(
+        good::good_scalars(s),
+        good::good_lent(marks, xs, ys, held, inputs),
+    )
+}
+
 // Whether the reader is not refused 17.
 pub fn is_good(reader: Reader) -> bool
     ensures { λ r. ⌜ r ≡ goodReader reader ⌝ }
 {
     let scalars = reader.scalars;
     let entries = reader.entries;
-    good::both(good::good_scalars(scalars), good::good_entries(entries))
+    good_state(
+        scalars,
+        &entries.marks,
+        &entries.xs,
+        &entries.ys,
+        &entries.held,
+        &entries.inputs,
+    )
 }
 
 const NO_PART: Part = Part { at: 0, len: 0 };
@@ -240,8 +264,7 @@ pub fn read(reader: Reader, window: &[u8], last: bool) -> ReadAnswer
     let mut xs = entries.xs;
     let mut ys = entries.ys;
     let mut held = entries.held;
-    let good = good::good_lent(&marks, &xs, &ys, &held, &entries.inputs);
-    if !good::both(good::good_scalars(scalars), good) {
+    if !good_state(scalars, &marks, &xs, &ys, &held, &entries.inputs) {
         return refused(reader, Refusal::BadState);
     }
     if scalars.closed {

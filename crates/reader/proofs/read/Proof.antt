@@ -1,37 +1,35 @@
 -- `reader::read` meets its contract. Assumes nothing.
 use mathlib.Core.Path.{_≡_}
-use Rattle.reader.proofs.Calls.{off, on, tested, renamed, call-bad, call-closed, call-open}
+use Rattle.reader.proofs.Calls.{off, on, renamed, call-bad, call-closed, call-open}
 use borrow.Author.Needs.{needs}
 use Rattle.reader.proofs.read.Statement.{statement}
 use Rattle.reader.proofs.read.Tie as tie
 
 returns : tie.Need-returns
 returns c =
-    let a = c .before .before .before .before .before .before .before .before .before .before .before .before .before .before .before .before .before .before .args in
-    let g = tested (a .reader) _ _ _ (c .before .before .before .good-scalars .ensures) (c .before .before .before .before .good-lent .ensures) (c .before .before .both .ensures) in
+    let a = c .before .before .before .before .before .before .before .before .before .before .before .before .before .before .before .before .args in
     renamed
-    (call-bad (a .reader) (a .window .now) (a .last) (off _ _ g (c .before .if1 .taken)))
+    (call-bad (a .reader) (a .window .now) (a .last) (off _ _ (c .before .before .good-state .ensures) (c .before .if1 .taken)))
     (c .refused .ensures)
 
 returns-2 : tie.Need-returns-2
 returns-2 c =
-    let a = c .before .before .before .before .before .before .before .before .before .before .before .before .before .before .before .before .before .before .before .args in
-    let g = tested (a .reader) _ _ _ (c .before .before .before .before .good-scalars .ensures) (c .before .before .before .before .before .good-lent .ensures) (c .before .before .before .both .ensures) in
+    let a = c .before .before .before .before .before .before .before .before .before .before .before .before .before .before .before .before .before .args in
     renamed
-    (call-closed (a .reader) (a .window .now) (a .last) (on _ _ g (c .before .before .if1 .left)) (c .before .if2 .taken))
+    (call-closed (a .reader) (a .window .now) (a .last) (on _ _ (c .before .before .before .good-state .ensures) (c .before .before .if1 .left)) (c .before .if2 .taken))
     (c .refused2 .ensures)
 
 returns-3 : tie.Need-returns-3
 returns-3 c =
-    let a = c .before .before .before .before .before .before .before .before .before .before .before .before .before .before .before .before .before .before .before .before .before .before .before .before .before .args in
-    let g = tested (a .reader) _ _ _ (c .before .before .before .before .before .before .before .before .before .before .good-scalars .ensures) (c .before .before .before .before .before .before .before .before .before .before .before .good-lent .ensures) (c .before .before .before .before .before .before .before .before .before .both .ensures) in
+    let a = c .before .before .before .before .before .before .before .before .before .before .before .before .before .before .before .before .before .before .before .before .before .before .before .args in
+    let tests = c .before .before .before .before .before .before .before in
     rw (c .answered .ensures)
     (renamed
-    (call-open (a .reader) (a .window .now) (a .last) (on _ _ g (c .before .before .before .before .before .before .before .before .if1 .left)) (c .before .before .before .before .before .before .before .if2 .left))
+    (call-open (a .reader) (a .window .now) (a .last) (on _ _ (tests .before .before .good-state .ensures) (tests .before .if1 .left)) (tests .if2 .left))
     (c .before .open-told .ensures))
 
 pub read-spec : {M : Type 1} → statement M
 read-spec =
     tie.close
-    (tie.spec (λ c κs. search needs) (λ c κs. search needs) (λ c κs. search needs) (λ c κs. search needs) returns
-    (λ c κs. search needs) returns-2 (λ c κs. search needs) (λ c κs. search needs) returns-3)
+    (tie.spec (λ c κs. search needs) (λ c κs. search needs) returns (λ c κs. search needs) returns-2
+    (λ c κs. search needs) (λ c κs. search needs) returns-3)
