@@ -1,6 +1,6 @@
 -- `lines::put_natural` meets its contract. The loop's invariant: the digits of the rest, put at the number's place, make of the target
 -- what all of them make of it. Assumes nothing.
-use Prim.Native.Nat.{ℕ, _+_, _-_, _/_, _%_, _≤_, _<_}
+use Prim.Native.Nat.{_+_, _-_, _/_, _%_, _≤_, _<_}
 use mathlib.Core.Path.{_≡_, refl, _∙_, ap}
 use native.Mathlib.Omega.{arith}
 use borrow.Author.Needs.{needs}
