@@ -8,7 +8,7 @@ use lib.Seq.{length-take-le, take-nil, take-take, take-append-le, drop-append-le
 use lib.IntN.{ℤ}
 use Rattle.state.specs.Reading.{Event, tickStart, tickEnd, playerNew, playerChange, playerOld, input, other}
 use Rattle.many.specs.Many.{Seen, eventRow, rowOf, eventTens, tensOf, put, rowsFrom, tensFrom}
-use Rattle.replayer.specs.Rows.{Told, AllTold}
+use Rattle.replayer.specs.Rows.{AllTold}
 
 drop-take : (a b : ℕ) (l : List ℤ) → drop a (take (a + b) l) ≡ take b (drop a l)
 drop-take zero b l = let q : 0 + b ≡ b = omega arith in rw q

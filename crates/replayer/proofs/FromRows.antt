@@ -1,7 +1,6 @@
 -- The line of an event, from its row. Assumes nothing.
 use Prim.Native.Nat.{ℕ, zero, suc, _+_, _*_, _-_, _≤_, _<_}
 use mathlib.Core.Path.{_≡_, refl, sym, _∙_, ap}
-use mathlib.Core.Bool.{true, false}
 use mathlib.Core.List.{List, [], _∷_, _++_}
 use native.Mathlib.Omega.{arith}
 use native.Mathlib.Nat.{add-zero}
@@ -10,7 +9,7 @@ use lib.ListN.{length, take, drop, getD, length-append, length-take}
 use lib.Seq.{take-take, drop-drop, getD-take, getD-drop, take-at}
 use lib.IntN.{ℤ, pos, negsuc}
 use mir.Syntax.{w32}
-use mir.Val.{SFits, toZ, ofZ}
+use mir.Val.{SFits, ofZ}
 use Rattle.num.proofs.Signs.{key}
 use Rattle.item.specs.Contents.{cidOf, tagNumber}
 use Rattle.item.specs.declared.Cid.{Cid}
@@ -30,13 +29,9 @@ use Rattle.lines.specs.Lines.{
   lineOf,
   longest,
   Puts,
-  textAnswer,
-  textTarget,
-  lineAnswer,
-  lineTarget,
 }
 use Rattle.lines.proofs.Texts.{same-text}
-use Rattle.replayer.specs.Rows.{pastOr, cidTold, clientAnd, recordTold, Told}
+use Rattle.replayer.specs.Rows.{Tries, TriesPlain, cidTold, clientAnd, recordTold, Told}
 
 -- ---- the client of which two numbers tell
 
@@ -93,7 +88,7 @@ record-row (other r) n p ten u = ap (recordLine (tagNumber (r .tag))) (told-back
 -- ---- where there is room, a line is put
 
 pub puts-of : (most : ℕ) (xs : List ℕ) (at : ℕ) (line : List ℕ) (next : ℕ) (ys : List ℕ) → at + most ≤ length xs
-    → (next ≡ pastOr (textAnswer most xs at line) at) × (ys ≡ textTarget most xs at line) → Puts xs at line next ys
+    → Tries most xs at line next ys → Puts xs at line next ys
 puts-of most xs at line next ys h p = let t = le-leb (at + most) (length xs) h in rw t at p
 
 -- the ten numbers of an input
@@ -140,9 +135,7 @@ module _ (x : Seen) (i : ℕ) (rows tens : List ℤ) (t : Told x i rows tens) wh
     pub plain-put : (word : List ℕ) (n k to : ℕ) → to - (8 * i + 2) ≡ n → n ≤ 6 → length word ≤ 6
         → ofZ w32 (getD rows (8 * i) (pos 0)) ≡ k → k ≤ 6
         → lineBy k (rowOf x) (x .input) ≡ plainLine word (take n (drop 2 (rowOf x)))
-        → let ns = take (to - (8 * i + 2)) (drop (8 * i + 2) rows) in
-        (next ≡ pastOr (textAnswer (plainMost word ns) xs at (plainLine word ns)) at)
-        × (ys ≡ textTarget (plainMost word ns) xs at (plainLine word ns))
+        → TriesPlain word (take (to - (8 * i + 2)) (drop (8 * i + 2) rows)) xs at next ys
         → Puts xs at (lineOf (x .event) (x .input)) next ys
     plain-put word n k to e h small b j f p =
         let ns = take n (drop (8 * i + 2) rows) in
@@ -152,9 +145,7 @@ module _ (x : Seen) (i : ℕ) (rows tens : List ℤ) (t : Told x i rows tens) wh
         same-text xs at _ _ g next ys (puts-of (plainMost word ns) xs at (plainLine word ns) next ys (omega arith) (rw e at p))
 
     pub input-put : ofZ w32 (getD rows (8 * i) (pos 0)) ≡ 6
-        → let ns = clientAnd rows (8 * i + 2) tens (20 * i) in
-        (next ≡ pastOr (textAnswer (plainMost inputWord ns) xs at (plainLine inputWord ns)) at)
-        × (ys ≡ textTarget (plainMost inputWord ns) xs at (plainLine inputWord ns))
+        → TriesPlain inputWord (clientAnd rows (8 * i + 2) tens (20 * i)) xs at next ys
         → Puts xs at (lineOf (x .event) (x .input)) next ys
     unfolding rowOf tensOf lineBy
     input-put b p =
@@ -168,8 +159,7 @@ module _ (x : Seen) (i : ℕ) (rows tens : List ℤ) (t : Told x i rows tens) wh
         same-text xs at _ _ g next ys (puts-of (plainMost inputWord ns) xs at (plainLine inputWord ns) next ys (omega arith) p)
 
     pub record-put : Unlike (ofZ w32 (getD rows (8 * i) (pos 0)))
-        → let line = recordTold rows (8 * i + 2) in
-        (next ≡ pastOr (lineAnswer xs at line) at) × (ys ≡ lineTarget xs at line) → Puts xs at (lineOf (x .event) (x .input)) next ys
+        → Tries longest xs at (recordTold rows (8 * i + 2)) next ys → Puts xs at (lineOf (x .event) (x .input)) next ys
     unfolding rowOf
     record-put u p =
         let three : 8 * i + 2 + 1 ≡ 8 * i + 3 = omega arith in

@@ -1,6 +1,6 @@
 -- A call that does not answer more answers the same on a longer window; one that does leaves its reader. Assumes nothing.
 use Prim.Native.Nat.{ℕ, _≤_, zero-le}
-use mathlib.Core.Path.{_≡_, refl, sym, _∙_, ap}
+use mathlib.Core.Path.{_≡_, refl, _∙_, ap}
 use mathlib.Core.Bool.{Bool, true, false, cond}
 use mathlib.Core.List.{List, _++_}
 use lib.ListN.{length}
@@ -16,7 +16,6 @@ use Rattle.state.specs.Reading.{
   Event,
   Step,
   outOf,
-  refusal,
   tickRule,
   withRest,
   withRule,

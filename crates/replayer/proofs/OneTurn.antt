@@ -1,7 +1,7 @@
 -- One turn, from what its calls ensure. Assumes nothing.
-use Prim.Native.Nat.{ℕ, zero, suc, _+_, _*_, _/_, _≤_, _<_, min}
+use Prim.Native.Nat.{ℕ, zero, suc, _+_, _*_, _≤_, min}
 use mathlib.Core.Path.{_≡_, refl, sym, _∙_, ap}
-use mathlib.Core.Bool.{Bool, true, false}
+use mathlib.Core.Bool.{Bool, false}
 use mathlib.Core.List.{List, [], _∷_, _++_}
 use native.Mathlib.Omega.{arith}
 use borrow.Author.Tests.{le-leb, leb-true, leb-false}
@@ -19,7 +19,6 @@ use Rattle.lines.specs.Lines.{longest, Puts, refusedWord}
 use Rattle.lines.proofs.Texts.{line-fits}
 use Rattle.replayer.specs.Replay.{full, windowOf, isLast, textOf, ends, endingOf, runText, turnRoom, turnRun, Turns}
 use Rattle.replayer.specs.Rows.{AllTold, PutsLines}
-use Rattle.replayer.specs.declared.Turned.{Turned}
 use Rattle.replayer.proofs.Onward.{text-le}
 use Rattle.replayer.proofs.Blocks.{Tens, all-told, rows-length, tens-length, front-rows, front-tens}
 use Rattle.replayer.proofs.Tens.{few}

@@ -1,6 +1,6 @@
 -- Lines put one behind the other: what is still to come. Assumes nothing.
 use Prim.Native.Nat.{ℕ, suc, _+_, _*_, _≤_, _<_}
-use mathlib.Core.Path.{_≡_, refl, sym, _∙_, ap}
+use mathlib.Core.Path.{_≡_, refl, _∙_}
 use mathlib.Core.List.{List, [], _∷_, _++_}
 use native.Mathlib.Omega.{arith}
 use native.Mathlib.Numerals.{add-one}
@@ -12,7 +12,7 @@ use Rattle.many.specs.Many.{Seen}
 use Rattle.lines.specs.Lines.{lineOf, longest, Puts}
 use Rattle.lines.proofs.Texts.{line-le}
 use Rattle.replayer.specs.Replay.{textOf}
-use Rattle.replayer.specs.Rows.{Told, AllTold, PutsLine}
+use Rattle.replayer.specs.Rows.{AllTold, PutsLine}
 
 abbrev pub lineIs : Seen → List ℕ
 lineIs x = lineOf (x .event) (x .input)

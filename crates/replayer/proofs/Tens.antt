@@ -32,7 +32,6 @@ use Rattle.state.specs.Reading.{
   newPlayer,
   oldPlayer,
   sums,
-  changed,
   inputDiff,
   inputNew,
   skipped,
@@ -60,7 +59,7 @@ use Rattle.state.specs.declared.Rule.{Rule}
 use Rattle.state.specs.declared.Rule.the-variants.{Reads, Starts, Ends, EndsHere, Over}
 use Rattle.state.proofs.Every.{by-cond}
 use Rattle.state.proofs.Places.{kindTold, next-told, ofKind, restTold, rest-told}
-use Rattle.many.specs.Many.{Seen, Run, seenBy, stopped, before, onSaid, calls}
+use Rattle.many.specs.Many.{Run, seenBy, before, onSaid, calls}
 use Rattle.replayer.proofs.Blocks.{Tens}
 
 abbrev Ten : Step → Type 0

@@ -4,16 +4,16 @@ use mathlib.Core.Path.{_≡_, refl, sym, _∙_, ap}
 use mathlib.Core.Bool.{Bool, true, false, cond}
 use mathlib.Core.List.{List, [], _∷_, _++_, append-assoc, append-nil}
 use native.Mathlib.Omega.{arith}
-use borrow.Author.Tests.{lt-ltb, ltb-true, ltb-false}
+use borrow.Author.Tests.{lt-ltb, ltb-true}
 use lib.Dec.{ltb}
 use lib.ListN.{length, take, drop, length-take, length-drop, take-append-drop, drop-of-length-le}
 use lib.Seq.{take-all, take-append-add, drop-append-le, drop-drop}
-use lib.IntN.{ℤ, pos}
+use lib.IntN.{pos}
 use Rattle.num.proofs.Cases.{by-bool}
 use Rattle.item.specs.Said.{Said, gives, more, finish, refuses}
 use Rattle.state.specs.Reading.{Event, Step, readCall, readerAfter}
 use Rattle.state.specs.declared.Reader.{Reader}
-use Rattle.many.specs.Many.{Seen, Halt, isFull, wantsMore, finishes, isRefused, Run, seenBy, before, onSaid, stopped, calls}
+use Rattle.many.specs.Many.{Seen, Halt, isFull, wantsMore, finishes, isRefused, Run, seenBy, before, onSaid, calls}
 use Rattle.lines.specs.Lines.{lineOf, lastLine, plainLine, refusedWord}
 use Rattle.lines.specs.declared.Ending.the-variants.{Finish, TooLong}
 use Rattle.replayer.specs.Replay.{full, windowOf, isLast, textOf, ends, endingOf, runText, turnRun, printed, replayFrom}

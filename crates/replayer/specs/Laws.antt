@@ -6,7 +6,7 @@ use mathlib.Core.List.{List, [], _∷_, _++_}
 use lib.ListN.{length, drop}
 use Rattle.state.specs.declared.Reader.{Reader}
 use Rattle.many.specs.Many.{Run}
-use Rattle.replayer.specs.Replay.{textOf, ends, endingOf, runText, turnRun, replayFrom}
+use Rattle.replayer.specs.Replay.{ends, runText, turnRun, replayFrom}
 
 -- whether a turn ends the replay
 abbrev pub over : Run → Bool

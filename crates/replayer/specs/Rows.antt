@@ -11,13 +11,21 @@ use Rattle.item.specs.declared.Cid.{Cid}
 use Rattle.item.specs.declared.Cid.the-variants.{Of, NoCid}
 use Rattle.state.specs.State.{same}
 use Rattle.many.specs.Many.{Seen, rowOf, tensOf}
-use Rattle.lines.specs.Lines.{recordLine, lineOf, longest, Puts}
+use Rattle.lines.specs.Lines.{plainLine, plainMost, recordLine, lineOf, longest, Puts, textAnswer, textTarget}
 use Rattle.replayer.specs.Replay.{textOf}
 
 -- the place past what was written, else the place itself
 abbrev pub pastOr : Wrote → ℕ → ℕ
 pastOr (Past next) at = next
 pastOr (Refused r) at = at
+
+-- a text is written where there is room for so many bytes
+abbrev pub Tries : ℕ → List ℕ → ℕ → List ℕ → ℕ → List ℕ → Type 0
+Tries most xs at text next ys = (next ≡ pastOr (textAnswer most xs at text) at) × (ys ≡ textTarget most xs at text)
+
+-- a word and numbers are
+abbrev pub TriesPlain : List ℕ → List ℤ → List ℕ → ℕ → ℕ → List ℕ → Type 0
+TriesPlain word ns xs at next ys = Tries (plainMost word ns) xs at (plainLine word ns) next ys
 
 -- the client of which two numbers tell
 abbrev pub cidTold : ℤ → ℤ → Cid

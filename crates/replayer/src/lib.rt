@@ -2,20 +2,10 @@
 ghost use mathlib.Core.Path.{_≡_};
 ghost use Prim.Native.Nat.{_+_, _*_, _-_, _/_, _≤_, min};
 ghost use lib.ListN.{length, take, drop};
-ghost use Rattle.lines.specs.Lines.{
-  inputWord,
-  longest,
-  Puts,
-  plainLine,
-  plainMost,
-  textAnswer,
-  textTarget,
-  lineAnswer,
-  lineTarget,
-};
+ghost use Rattle.lines.specs.Lines.{inputWord, longest, Puts};
 ghost use Rattle.many.specs.Many.{haltOf};
 ghost use Rattle.replayer.specs.Replay.{endingOf, ends, turnRoom, turnRun, Turns};
-ghost use Rattle.replayer.specs.Rows.{pastOr, cidTold, clientAnd, recordTold, PutsLine, PutsLines};
+ghost use Rattle.replayer.specs.Rows.{pastOr, Tries, TriesPlain, cidTold, clientAnd, recordTold, PutsLine, PutsLines};
 use item::Cid;
 use lines::Ending;
 use many::Stop;
@@ -47,8 +37,7 @@ fn past(wrote: Wrote, at: usize) -> usize
 // A word and the numbers from a place of the rows to another.
 fn put_part(word: &[u8], rows: &[i32], from: usize, to: usize, out: &mut [u8], at: usize) -> usize
     requires { ⌜ (from ≤ to) × (to ≤ length (now rows)) ⌝ }
-    ensures { λ r. ⌜ r ≡ pastOr (textAnswer (plainMost (now (word .entry)) (take (to - from) (drop from (now (rows .entry))))) (now (out .entry)) at (plainLine (now (word .entry)) (take (to - from) (drop from (now (rows .entry)))))) at ⌝ }
-    ensures { λ r. ⌜ now (out .exit) ≡ textTarget (plainMost (now (word .entry)) (take (to - from) (drop from (now (rows .entry))))) (now (out .entry)) at (plainLine (now (word .entry)) (take (to - from) (drop from (now (rows .entry))))) ⌝ }
+    ensures { λ r. ⌜ TriesPlain (now (word .entry)) (take (to - from) (drop from (now (rows .entry)))) (now (out .entry)) at r (now (out .exit)) ⌝ }
 {
     past(lines::write_plain(word, &rows[from..to], out, at), at)
 }
@@ -63,8 +52,7 @@ fn put_input(
     at: usize,
 ) -> usize
     requires { ⌜ (first + 1 ≤ length (now rows)) × (from + 10 ≤ length (now tens)) ⌝ }
-    ensures { λ r. ⌜ r ≡ pastOr (textAnswer (plainMost inputWord (clientAnd (now (rows .entry)) first (now (tens .entry)) from)) (now (out .entry)) at (plainLine inputWord (clientAnd (now (rows .entry)) first (now (tens .entry)) from))) at ⌝ }
-    ensures { λ r. ⌜ now (out .exit) ≡ textTarget (plainMost inputWord (clientAnd (now (rows .entry)) first (now (tens .entry)) from)) (now (out .entry)) at (plainLine inputWord (clientAnd (now (rows .entry)) first (now (tens .entry)) from)) ⌝ }
+    ensures { λ r. ⌜ TriesPlain inputWord (clientAnd (now (rows .entry)) first (now (tens .entry)) from) (now (out .entry)) at r (now (out .exit)) ⌝ }
 {
     let to = from + 10;
     past(
@@ -86,8 +74,7 @@ fn cid_of(has: i32, client: i32) -> Cid
 // The line of a record whose kind's number and client stand at a place of the rows.
 fn put_record(rows: &[i32], first: usize, out: &mut [u8], at: usize) -> usize
     requires { ⌜ first + 3 ≤ length (now rows) ⌝ }
-    ensures { λ r. ⌜ r ≡ pastOr (lineAnswer (now (out .entry)) at (recordTold (now (rows .entry)) first)) at ⌝ }
-    ensures { λ r. ⌜ now (out .exit) ≡ lineTarget (now (out .entry)) at (recordTold (now (rows .entry)) first) ⌝ }
+    ensures { λ r. ⌜ Tries longest (now (out .entry)) at (recordTold (now (rows .entry)) first) r (now (out .exit)) ⌝ }
 {
     let cid = cid_of(rows[first + 1], rows[first + 2]);
     past(lines::write_record(rows[first], cid, out, at), at)

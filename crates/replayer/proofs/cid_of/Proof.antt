@@ -1,5 +1,4 @@
 -- `replayer::cid_of` meets its contract. Assumes nothing.
-use mathlib.Core.Path.{_≡_}
 use mir.Syntax.{w32}
 use mir.Facts.{toZ-ofZ}
 use Rattle.replayer.proofs.FromRows.{told-one, told-none}

@@ -1,7 +1,7 @@
 -- `replayer::put_rows` meets its contract. The loop's invariant: of the events of which the rows tell, the lines still to come, put at the
 -- place, make of the target what all lines make of it. Assumes nothing.
-use Prim.Native.Nat.{_-_, _≤_, _*_, _+_}
-use mathlib.Core.Path.{_≡_, refl, _∙_}
+use Prim.Native.Nat.{_-_, _≤_}
+use mathlib.Core.Path.{_≡_, refl}
 use native.Mathlib.Omega.{arith}
 use borrow.Author.Needs.{needs}
 use lib.ListN.{length}
