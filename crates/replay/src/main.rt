@@ -246,28 +246,28 @@ fn run(buf: &mut [u8], rows: &mut [i32], tens: &mut [i32], out: &mut [u8]) {
 }
 
 // The arrays that main lends.
-fn buffer() -> [u8; 262144]
-    ensures { λ r. ⌜ 262144 ≡ length r ⌝ }
+fn buffer() -> [u8; 1048576]
+    ensures { λ r. ⌜ 1048576 ≡ length r ⌝ }
 {
-    [0; 262144]
+    [0; 1048576]
 }
 
-fn row_space() -> [i32; 8192]
-    ensures { λ r. ⌜ 8192 ≡ length r ⌝ }
+fn row_space() -> [i32; 32768]
+    ensures { λ r. ⌜ 32768 ≡ length r ⌝ }
 {
-    [0; 8192]
+    [0; 32768]
 }
 
-fn ten_space() -> [i32; 20480]
-    ensures { λ r. ⌜ 20480 ≡ length r ⌝ }
+fn ten_space() -> [i32; 81920]
+    ensures { λ r. ⌜ 81920 ≡ length r ⌝ }
 {
-    [0; 20480]
+    [0; 81920]
 }
 
-fn text_space() -> [u8; 141588]
-    ensures { λ r. ⌜ 141588 ≡ length r ⌝ }
+fn text_space() -> [u8; 565524]
+    ensures { λ r. ⌜ 565524 ≡ length r ⌝ }
 {
-    [0; 141588]
+    [0; 565524]
 }
 
 fn main() {
