@@ -1,14 +1,14 @@
--- `count::jolzerv_count_many` counts the events of the definition's run. Assumes nothing.
-use Prim.Native.Nat.{_-_}
+-- `count_many::jolzerv_count_many` counts the events of the definition's run. Assumes nothing.
+use Prim.Native.Nat.{_+_, _-_}
 use native.Mathlib.Omega.{arith}
 use borrow.Author.Needs.{needs}
 use mathlib.Core.Path.{_≡_, refl, sym, ap, _∙_}
 use lib.ListN.{length}
 use Rattle.many.specs.Many.{haltOf}
 use Rattle.count.specs.Count.{versionIf}
-use Rattle.count.proofs.Manies.{Far, far-start, far-full, far-sum, far-end, far-more}
-use Rattle.count.proofs.jolzerv_count_many.Statement.{statement}
-use Rattle.count.proofs.jolzerv_count_many.Tie as tie
+use Rattle.count_many.proofs.Manies.{Far, far-start, far-full, far-sum, far-end, far-more}
+use Rattle.count_many.proofs.jolzerv_count_many.Statement.{statement}
+use Rattle.count_many.proofs.jolzerv_count_many.Tie as tie
 
 abbrev Inv-loop : tie.InvT-loop
 Inv-loop second body rows₀ tens₀ reader₀ at₀ count₀ turns₀ rows tens reader at count turns =
@@ -102,7 +102,8 @@ loop-again c =
     let a = c .before .before .before .before .before .before .before .before .before .before .before .before .before .before .before .args in
     let m = c .before .before .before .before .before .before .read-many in
     let f = far-more (versionIf (a .second)) (a .body .now) (l .reader) (l .at) (l .count) (l .turns) (l .inv .0) (omega (arith, c .before .before .before .before .before .before .before .before .before .before .loop-test .taken)) _ _ _ _ (l .inv .1 .0) (l .inv .1 .1) (m .result) (m .ensures) (c .before .before .enum-told .given .1) in
-    (rw (c .before .past .ensures (f .within)) f, (search needs, search needs))
+    let e : c .before .past .result ≡ l .at + m .result .used = omega (arith, c .before .past .ensures, f .within) in
+    (rw e f, (search needs, search needs))
 
 returns-4 : tie.Need-returns-4 Inv-loop μ-loop
 returns-4 c =

@@ -1,15 +1,15 @@
--- `count::jolzerv_count_each` counts the events of the definition's run. Assumes nothing.
-use Prim.Native.Nat.{_-_}
+-- `count_each::jolzerv_count_each` counts the events of the definition's run. Assumes nothing.
+use Prim.Native.Nat.{_+_, _-_}
 use native.Mathlib.Omega.{arith}
 use borrow.Author.Needs.{needs}
 use mathlib.Core.Path.{_≡_, refl, sym, ap, _∙_}
 use Rattle.state.specs.declared.Answer.{Answer}
 use Rattle.reader.specs.Answers.{saidWith}
 use Rattle.count.specs.Count.{versionIf, most}
 use Rattle.count.proofs.Runs.{NoEvent}
-use Rattle.count.proofs.Singles.{Far, far-start, far-full, far-end, far-more}
-use Rattle.count.proofs.jolzerv_count_each.Statement.{statement}
-use Rattle.count.proofs.jolzerv_count_each.Tie as tie
+use Rattle.count_each.proofs.Singles.{Far, far-start, far-full, far-end, far-more}
+use Rattle.count_each.proofs.jolzerv_count_each.Statement.{statement}
+use Rattle.count_each.proofs.jolzerv_count_each.Tie as tie
 
 abbrev Inv-loop : tie.InvT-loop
 Inv-loop second body reader₀ at₀ count₀ reader at count = Far (versionIf second) body reader at count
@@ -56,7 +56,8 @@ loop-again c =
     let m = far-more (versionIf (a .second)) (a .body .now) (l .reader) (l .at) (l .count) (l .inv)
     (omega (arith, c .before .before .before .before .before .before .before .loop-test .taken))
     (r .result) (r .ensures) (f .0 .0) (f .0 .1 .0) (f .1) in
-    rw (c .before .past .ensures (m .within)) m
+    let e : c .before .past .result ≡ l .at + f .0 .1 .0 = omega (arith, c .before .past .ensures, m .within) in
+    rw e m
 
 returns-4 : tie.Need-returns-4 Inv-loop μ-loop
 returns-4 c =
