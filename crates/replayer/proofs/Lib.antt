@@ -5,3 +5,6 @@ pub mod Tens
 pub mod OneTurn
 pub mod Longer
 pub mod Whole
+pub mod Ahead
+pub mod Enough
+pub mod Bound
