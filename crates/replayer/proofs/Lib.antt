@@ -8,3 +8,4 @@ pub mod Whole
 pub mod Ahead
 pub mod Enough
 pub mod Bound
+pub mod EnoughTurns

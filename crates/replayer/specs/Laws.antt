@@ -1,5 +1,5 @@
--- What holds of turns, as statements; proofs/Whole.antt proves each, proofs/Bound.antt the last two. Document 01, "The replay program".
-use Prim.Native.Nat.{ℕ, suc, _+_}
+-- What holds of turns, as statements; proofs/Whole.antt, Bound.antt and EnoughTurns.antt prove each. Document 01, "The replay program".
+use Prim.Native.Nat.{ℕ, suc, _+_, _≤_}
 use mathlib.Core.Path.{_≡_}
 use mathlib.Core.Bool.{Bool, true, false, cond}
 use mathlib.Core.List.{List, [], _∷_, _++_}
@@ -54,3 +54,7 @@ EnoughCalls = (r : Reader) (body : List ℕ) (k : ℕ) → replayFrom (enough bo
 abbrev pub TurnsPrintText : Type 0
 TurnsPrintText =
     (v : Version) (ns body : List ℕ) → turnsEnd ns (emptyReader v) body ≡ true → turnsText ns (emptyReader v) body ≡ replayText v body
+
+-- enough turns end the replay
+abbrev pub EnoughTurns : Type 0
+EnoughTurns = (ns : List ℕ) (r : Reader) (body : List ℕ) → enough body ≤ length ns → turnsEnd ns r body ≡ true
