@@ -5,3 +5,7 @@ pub mod Tens
 pub mod OneTurn
 pub mod Longer
 pub mod Whole
+pub mod Ahead
+pub mod Enough
+pub mod Bound
+pub mod EnoughTurns

@@ -1,12 +1,14 @@
--- What holds of turns, as statements; proofs/Whole.antt proves each. Document 01, "The replay program".
-use Prim.Native.Nat.{ℕ, suc, _+_}
+-- What holds of turns, as statements; proofs/Whole.antt, Bound.antt and EnoughTurns.antt prove each. Document 01, "The replay program".
+use Prim.Native.Nat.{ℕ, suc, _+_, _≤_}
 use mathlib.Core.Path.{_≡_}
 use mathlib.Core.Bool.{Bool, true, false, cond}
 use mathlib.Core.List.{List, [], _∷_, _++_}
 use lib.ListN.{length, drop}
+use Rattle.item.specs.declared.Version.{Version}
+use Rattle.state.specs.State.{emptyReader}
 use Rattle.state.specs.declared.Reader.{Reader}
 use Rattle.many.specs.Many.{Run}
-use Rattle.replayer.specs.Replay.{ends, runText, turnRun, replayFrom}
+use Rattle.replayer.specs.Replay.{ends, runText, turnRun, replayFrom, enough, replayText}
 
 -- whether a turn ends the replay
 abbrev pub over : Run → Bool
@@ -43,3 +45,16 @@ pub record AllPrinted (r : Reader) (body text : List ℕ) : Type 0 where
 abbrev pub TurnsReplay : Type 0
 TurnsReplay =
     (ns : List ℕ) (r : Reader) (body : List ℕ) → turnsEnd ns r body ≡ true → AllPrinted r body (turnsText ns r body)
+
+-- more calls than enough print no more
+abbrev pub EnoughCalls : Type 0
+EnoughCalls = (r : Reader) (body : List ℕ) (k : ℕ) → replayFrom (enough body + k) r body ≡ replayFrom (enough body) r body
+
+-- turns from the empty reader on, of which one ends the replay, print the body's text
+abbrev pub TurnsPrintText : Type 0
+TurnsPrintText =
+    (v : Version) (ns body : List ℕ) → turnsEnd ns (emptyReader v) body ≡ true → turnsText ns (emptyReader v) body ≡ replayText v body
+
+-- enough turns end the replay
+abbrev pub EnoughTurns : Type 0
+EnoughTurns = (ns : List ℕ) (r : Reader) (body : List ℕ) → enough body ≤ length ns → turnsEnd ns r body ≡ true

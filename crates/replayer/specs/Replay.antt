@@ -1,5 +1,5 @@
 -- The replay program on the bytes at hand: its window, its lines, one turn. Document 01, "The replay program".
-use Prim.Native.Nat.{ℕ, zero, suc, _-_, _/_, min}
+use Prim.Native.Nat.{ℕ, zero, suc, _+_, _*_, _-_, _/_, min}
 use mathlib.Core.Path.{_≡_}
 use mathlib.Core.Bool.{Bool, true, false}
 use mathlib.Core.List.{List, [], _∷_, _++_}
@@ -7,6 +7,8 @@ use lib.Dec.{ltb}
 use lib.ListN.{length, take, drop}
 use lib.IntN.{ℤ, pos}
 use Rattle.item.specs.Said.{Said, gives, more, finish, refuses}
+use Rattle.item.specs.declared.Version.{Version}
+use Rattle.state.specs.State.{emptyReader}
 use Rattle.state.specs.Reading.{Event, readCall, readerAfter}
 use Rattle.state.specs.declared.Reader.{Reader}
 use Rattle.many.specs.Many.{
@@ -100,3 +102,11 @@ replayFrom zero r body = []
 replayFrom (suc k) r body =
     let t = readCall r (windowOf body) (isLast body) in
     printed (t .said) (t .memory .input) (λ n. replayFrom k (readerAfter t) (drop n body))
+
+-- so many calls are enough for a body
+abbrev pub enough : List ℕ → ℕ
+enough body = 5 * length body + 5
+
+-- what the program prints of a body
+abbrev pub replayText : Version → List ℕ → List ℕ
+replayText v body = replayFrom (enough body) (emptyReader v) body
