@@ -1,7 +1,8 @@
 // Replays bodies by turns, with room for a few events only, and prints their lines. Standard input holds inputs one behind the other, each
-// after its length in two bytes, the low one first: a version byte, then a body.
+// after its length in three bytes, the low one first: a version byte, then a body.
 ghost use mathlib.Core.Path.{_≡_};
 ghost use Prim.Native.Nat.{_-_, _≤_};
+ghost use lib.ListN.{length};
 use item::Version;
 use item::VersionOf;
 use libc::STDOUT_FILENO;
@@ -92,11 +93,11 @@ fn size(b: u8) -> usize
 fn run(s: &[u8]) {
     let mut at: usize = 0;
     while at < s.len() {
-        if s.len() - at < 2 {
+        if s.len() - at < 3 {
             return;
         }
-        let start = at + 2;
-        let len = size(s[at]) + 256 * size(s[at + 1]);
+        let start = at + 3;
+        let len = size(s[at]) + 256 * size(s[at + 1]) + 65536 * size(s[at + 2]);
         if s.len() - start < len {
             return;
         }
@@ -106,8 +107,14 @@ fn run(s: &[u8]) {
     }
 }
 
+fn buffer() -> [u8; 1048576]
+    ensures { λ r. ⌜ 1048576 ≡ length r ⌝ }
+{
+    [0; 1048576]
+}
+
 fn main() {
-    let mut buf = io::large_buffer();
+    let mut buf = buffer();
     let n = io::read_full(0, &mut buf);
     run(&buf[..n]);
 }

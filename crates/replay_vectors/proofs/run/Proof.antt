@@ -1,5 +1,6 @@
 -- `replay_vectors::run` is safe and ends. Assumes nothing.
 use Prim.Native.Nat.{_≤_, _-_}
+use native.Mathlib.Omega.{arith}
 use borrow.Author.Needs.{needs}
 use lib.ListN.{length}
 use Rattle.replay_vectors.proofs.run.Statement.{statement}
@@ -43,6 +44,21 @@ mul-len c = search needs
 
 add-len : tie.Need-add-len Inv-loop μ-loop
 add-len c = search needs
+
+add-size-2 : tie.Need-add-size-2 Inv-loop μ-loop
+add-size-2 c = search needs
+
+shared-slice-read-size-3 : tie.Need-shared-slice-read-size-3 Inv-loop μ-loop
+shared-slice-read-size-3 c = search needs
+
+size-requires-3 : tie.Need-size-requires-3 Inv-loop μ-loop
+size-requires-3 c κs = search needs
+
+mul-len-2 : tie.Need-mul-len-2 Inv-loop μ-loop
+mul-len-2 c = search needs
+
+add-len-2 : tie.Need-add-len-2 Inv-loop μ-loop
+add-len-2 c = search needs
 
 sub-if2 : tie.Need-sub-if2 Inv-loop μ-loop
 sub-if2 c = search needs
@@ -91,6 +107,11 @@ run-spec =
     size-requires-2
     mul-len
     add-len
+    add-size-2
+    shared-slice-read-size-3
+    size-requires-3
+    mul-len-2
+    add-len-2
     sub-if2
     returns-2
     add-end
