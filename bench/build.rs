@@ -1,8 +1,10 @@
-//! Links the proved library, which `rt staticlib count` writes.
+//! Links the proved libraries, which `rt staticlib` writes.
 
 fn main() {
-    let library = concat!(env!("CARGO_MANIFEST_DIR"), "/../target/staticlib");
-    println!("cargo:rustc-link-search=native={library}");
-    println!("cargo:rustc-link-lib=static=count");
-    println!("cargo:rerun-if-changed={library}/libcount.a");
+    let folder = concat!(env!("CARGO_MANIFEST_DIR"), "/../target/staticlib");
+    println!("cargo:rustc-link-search=native={folder}");
+    for library in ["count_each", "count_many"] {
+        println!("cargo:rustc-link-lib=static={library}");
+        println!("cargo:rerun-if-changed={folder}/lib{library}.a");
+    }
 }

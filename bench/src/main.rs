@@ -17,13 +17,14 @@ const ORACLE: &str = concat!(env!("CARGO_MANIFEST_DIR"), "/../oracle/target/orac
 const REPLAY: &str = concat!(env!("CARGO_MANIFEST_DIR"), "/../target/bin/replay");
 
 fn main() -> ExitCode {
-    let words: Vec<String> = std::env::args().skip(1).collect();
-    let [directory, rounds] = words.as_slice() else {
-        eprintln!("usage: bench DIR ROUNDS");
-        return ExitCode::from(2);
+    let arguments: Vec<String> = std::env::args().skip(1).collect();
+    let words: Vec<&str> = arguments.iter().map(String::as_str).collect();
+    let done = match words.as_slice() {
+        ["one", program, file, rest @ ..] => programs::one(program, rest, Path::new(file)),
+        [directory, rounds] => run(Path::new(directory), rounds.parse().unwrap_or(1)),
+        _ => Err(oracle::invalid("usage: bench DIR ROUNDS")),
     };
-    let rounds = rounds.parse().unwrap_or(1);
-    match run(Path::new(directory), rounds) {
+    match done {
         Ok(()) => ExitCode::SUCCESS,
         Err(error) => {
             eprintln!("bench: {error}");

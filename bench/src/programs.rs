@@ -1,4 +1,7 @@
 //! A replay program run on a file, its output thrown away: the time and the most memory that it took.
+//!
+//! What Linux counts as a process's memory begins with that of the process that started it. So the program is started by a
+//! process of this program that has read no body: bench one PROGRAM FILE WORDS.
 
 use std::fs::File;
 use std::io;
@@ -26,6 +29,35 @@ extern "C" {
 }
 
 pub fn run(program: &str, words: &[&str], file: &Path) -> io::Result<Took> {
+    let this = std::env::current_exe()?;
+    let output = Command::new(this)
+        .args(["one", program])
+        .arg(file)
+        .args(words)
+        .stderr(Stdio::inherit())
+        .output()?;
+    let text = String::from_utf8_lossy(&output.stdout);
+    let numbers: Vec<u64> = text
+        .split(' ')
+        .filter_map(|n| n.trim().parse().ok())
+        .collect();
+    match numbers.as_slice() {
+        [nanoseconds, kilobytes] => Ok(Took {
+            time: Duration::from_nanos(*nanoseconds),
+            kilobytes: *kilobytes,
+        }),
+        _ => Err(io::Error::other(format!("{program} was not measured"))),
+    }
+}
+
+/// Runs a program and prints its nanoseconds and kilobytes.
+pub fn one(program: &str, words: &[&str], file: &Path) -> io::Result<()> {
+    let took = start(program, words, file)?;
+    println!("{} {}", took.time.as_nanos(), took.kilobytes);
+    Ok(())
+}
+
+fn start(program: &str, words: &[&str], file: &Path) -> io::Result<Took> {
     let input = File::open(file)?;
     let begin = Instant::now();
     let child = Command::new(program)
