@@ -1,4 +1,4 @@
--- Stepping back over an event. Document 01, "Stepping back".
+-- Stepping back over an event. docs/FORMAT.md, "Stepping back".
 use Prim.Native.Nat.{ℕ}
 use mathlib.Core.Bool.{Bool, true, false, not, cond, _&&_}
 use mathlib.Core.List.{List, [], _∷_}

@@ -1,4 +1,4 @@
--- The board: the started tick or none, positions, inputs. Document 01, "Stepping back".
+-- The board: the started tick or none, positions, inputs. docs/FORMAT.md, "Stepping back".
 use mathlib.Core.Bool.{Bool, true, false, _&&_}
 use lib.IntN.{ℤ}
 use lib.Signed.{nonNeg}

@@ -5,7 +5,6 @@ pub mod Integers
 pub mod Entries
 pub mod Telling
 pub mod Steps
-pub mod Events
 pub mod Numbers
 pub mod Calls
 pub mod Theorem

@@ -1,4 +1,4 @@
--- A record's fields, one after the other, as they are read. Document 01, "Records".
+-- A record's fields, one after the other, as they are read. docs/FORMAT.md, "Records".
 use Prim.Native.Nat.{ℕ, zero, suc}
 use mathlib.Core.Bool.{cond}
 use mathlib.Core.List.{List, [], _∷_, _++_, map}

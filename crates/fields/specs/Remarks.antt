@@ -1,4 +1,4 @@
--- How many of the integers in some fields have a remark. Document 01, "Integers": remarks never refuse.
+-- How many of the integers in some fields have a remark. docs/FORMAT.md, "Integers": remarks never refuse.
 use Prim.Native.Nat.{ℕ, _+_}
 use mathlib.Core.List.{List, [], _∷_}
 use Rattle.varint.specs.Integers.{readInt}

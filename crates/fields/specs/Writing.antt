@@ -1,4 +1,4 @@
--- The written form of fields, and which values have one. Document 01, "Records" and "The writer".
+-- The written form of fields, and which values have one. docs/FORMAT.md, "Records" and "The writer".
 use Prim.Native.Nat.{ℕ, _+_, _<_}
 use mathlib.Core.Path.{_≡_}
 use mathlib.Core.Bool.{Bool, true, false, _&&_}

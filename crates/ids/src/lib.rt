@@ -10,7 +10,7 @@ ghost use Rattle.ids.specs.Table.{table, rowAt, number};
 use item::MagicRead;
 use refusal::Refusal;
 
-// The table: the constants of item.rs in the order of document 01, then the magic of mod.rs, 16 bytes each. The first eight bytes of
+// The table: the constants of item.rs in the order of docs/FORMAT.md, then the magic of mod.rs, 16 bytes each. The first eight bytes of
 // row k as a number, which is compared at once; an array would be copied wherever it is used.
 fn first_half(k: usize) -> u64
     ensures { λ r. ⌜ r ≡ number 0 (take 8 (rowAt k)) ⌝ }

@@ -1,4 +1,4 @@
--- The records that the code hands out: for each, which it is and the values that stand in it. Document 01, "Records" and rule 5.
+-- The records that the code hands out: for each, which it is and the values that stand in it. docs/FORMAT.md, "Records" and rule 5.
 use Prim.Native.Nat.{ℕ}
 use mathlib.Core.Path.{_≡_}
 use mathlib.Core.Bool.{cond}

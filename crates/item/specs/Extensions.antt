@@ -1,4 +1,4 @@
--- Extensions: the 20 identifiers, the constants of item.rs, and what stands in the data of each. Document 01, "Records".
+-- Extensions: the 20 identifiers, the constants of item.rs, and what stands in the data of each. docs/FORMAT.md, "Records".
 use Prim.Native.Nat.{ℕ, zero, suc, _+_}
 use mathlib.Core.Bool.{Bool, true, false, cond, _&&_}
 use mathlib.Core.List.{List, [], _∷_, map}

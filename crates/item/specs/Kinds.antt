@@ -1,4 +1,4 @@
--- Kinds. Document 01, "Records": 0 and above PlayerDiff of that client; -1 Finish; .. -11 extension, version 2 only.
+-- Kinds. docs/FORMAT.md, "Records": 0 and above PlayerDiff of that client; -1 Finish; .. -11 extension, version 2 only.
 use Prim.Native.Nat.{ℕ, zero, suc, _+_}
 use mathlib.Core.Bool.{Bool, true, false}
 use mathlib.Core.List.{List}

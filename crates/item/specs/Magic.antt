@@ -1,4 +1,4 @@
--- The magic, and the versions. Document 01, "What a call may say"; the bytes are `UUID` of format/mod.rs.
+-- The magic, and the versions. docs/FORMAT.md, "What a call may say"; the bytes are `UUID` of format/mod.rs.
 use Prim.Native.Nat.{ℕ, zero, suc}
 use mathlib.Core.Bool.{cond}
 use mathlib.Core.List.{List, [], _∷_}

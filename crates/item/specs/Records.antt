@@ -1,4 +1,4 @@
--- Records: kind, then fields; an extension's data is read by itself. Document 01, "Records".
+-- Records: kind, then fields; an extension's data is read by itself. docs/FORMAT.md, "Records".
 use Prim.Native.Nat.{ℕ, _+_, _-_}
 use mathlib.Core.Bool.{Bool}
 use mathlib.Core.List.{List, [], _∷_, _++_, map}

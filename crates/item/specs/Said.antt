@@ -1,4 +1,4 @@
--- What a call may say. Document 01, "What a call may say".
+-- What a call may say. docs/FORMAT.md, "What a call may say".
 use Prim.Native.Nat.{ℕ}
 use mathlib.Core.Bool.{Bool, true, false}
 use mathlib.Core.List.{List, []}

@@ -81,7 +81,7 @@ impl Kind {
     }
 }
 
-// Which record: a kind other than the extension's, one of the 20 extensions by its place in document 01, another extension.
+// Which record: a kind other than the extension's, one of the 20 extensions by its place in docs/FORMAT.md, another extension.
 pub enum Tag {
     Plain(Kind),
     Named(usize),

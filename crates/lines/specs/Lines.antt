@@ -1,4 +1,4 @@
--- The lines that the replay program prints. Document 01, "The replay program". A text is a list of bytes.
+-- The lines that the replay program prints. docs/FORMAT.md, "The replay program". A text is a list of bytes.
 use Prim.Native.Nat.{ℕ, zero, suc, _+_, _*_, _/_, _%_}
 use mathlib.Core.Path.{_≡_}
 use mathlib.Core.Bool.{cond}

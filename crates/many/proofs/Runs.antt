@@ -11,7 +11,7 @@ use Rattle.refusal.specs.Numbers.{numberOf, valuesOf}
 use Rattle.refusal.specs.declared.Refusal.{Refusal}
 use Rattle.num.specs.Wrap.{wrap32}
 use Rattle.item.specs.Said.{Said, more, finish, refusing}
-use Rattle.state.specs.State.{Memory, goodReader}
+use Rattle.state.specs.State.{Memory, readerWith, goodReader}
 use Rattle.state.specs.Reading.{Event, Step, goodCall, readCall, readerAfter}
 use Rattle.state.specs.Views.{eventIs, saidIs, done, slimSaid, slimStep}
 use Rattle.state.specs.Laws.{usedIn, Sound}
@@ -47,7 +47,7 @@ use Rattle.many.specs.Many.{
   haltOf,
   Tells,
 }
-use Rattle.many.specs.Stores.{EventPut, readerWith}
+use Rattle.many.specs.Stores.{EventPut}
 use Rattle.many.specs.declared.Stop.{Stop}
 use Rattle.many.proofs.Frame.{saidTens, Alike, good-alike}
 use Rattle.many.proofs.Slims.{slim-row, slim-tens, slim-used, Gave, gave, said-more, said-finish, said-refuses}

@@ -5,6 +5,7 @@ use mathlib.Core.List.{List}
 use lib.ListN.{length}
 use lib.IntN.{ℤ, pos}
 use Rattle.num.specs.Wrap.{wrap32}
+use Rattle.state.specs.State.{readerWith}
 use Rattle.state.specs.Reading.{Event}
 use Rattle.state.specs.declared.Entries.{Entries}
 use Rattle.state.specs.declared.Scalars.{Scalars}
@@ -23,9 +24,6 @@ pub record Room (n : ℕ) (rs ts : List ℤ) : Type 0 where
 pub record EventPut (e : Event) (used : ℕ) (pending : ℤ) (i : ℕ) (ten former rows₀ tens₀ rows₁ tens₁ : List ℤ) : Type 0 where
   pub rows : rows₁ ≡ put rows₀ (8 * i) (eventRow e (wrap32 (pos used)) pending)
   pub tens : tens₁ ≡ put tens₀ (20 * i) (eventTens e ten former)
-
-abbrev pub readerWith : Scalars → Entries → Reader
-readerWith s e = record { scalars = s; entries = e }
 
 abbrev pub rowsRead : Stop → ℕ → ℕ → Scalars → RowsRead
 rowsRead stop count used s = record { stop = stop; count = count; used = used; scalars = s }

@@ -1,4 +1,4 @@
--- Sums "with wrap at 32 bits": integers modulo 2 ^ 32. Document 01, "Ticks and the board".
+-- Sums "with wrap at 32 bits": integers modulo 2 ^ 32. docs/FORMAT.md, "Ticks and the board".
 use Prim.Native.Nat.{ℕ, _-_, _%_}
 use lib.IntN.{ℤ, pos, negsuc}
 use mir.Syntax.{w32}

@@ -1,4 +1,4 @@
--- Strings, data and raw bytes, from document 01, "Records". What is read is a part of the window: a place and a length.
+-- Strings, data and raw bytes, docs/FORMAT.md, "Records". What is read is a part of the window: a place and a length.
 use Prim.Native.Nat.{ℕ, _+_}
 use mathlib.Core.Bool.{cond}
 use mathlib.Core.List.{List, [], _∷_}

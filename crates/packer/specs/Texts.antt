@@ -1,4 +1,4 @@
--- The written forms of strings and data, and which have one. Document 01, "Records" and "The writer".
+-- The written forms of strings and data, and which have one. docs/FORMAT.md, "Records" and "The writer".
 use Prim.Native.Nat.{ℕ}
 use mathlib.Core.Bool.{Bool, true, false, cond}
 use mathlib.Core.List.{List, [], _∷_, _++_}

@@ -13,7 +13,7 @@ use Rattle.item.specs.declared.Kind.{Kind}
 use Rattle.item.specs.declared.Kind.the-variants as kinds
 use Rattle.item.specs.declared.Tag.{Tag}
 use Rattle.item.specs.declared.Tag.the-variants.{Plain, Named, Other}
-use Rattle.state.specs.State.{Memory, present, xOf, yOf, holds, tenOf}
+use Rattle.state.specs.State.{Memory, present, xOf, yOf, holds, tenOf, readerWith}
 use Rattle.state.specs.Reading.{Event, other, Step, openCall, readCall, readerAfter}
 use Rattle.state.specs.Views.{eventIs, saidIs, slimSaid}
 use Rattle.state.specs.declared.Scalars.{Scalars}
@@ -94,9 +94,6 @@ isRecord (answers.Event e used) = recordEvent e
 isRecord answers.More = false
 isRecord (answers.Finish used) = false
 isRecord (answers.Refused r) = false
-
-abbrev pub readerWith : Scalars → Entries → Reader
-readerWith s e = record { scalars = s; entries = e }
 
 abbrev pub readAnswer : Answer → Scalars → Entries → List ℤ → List ℤ → Args → ReadAnswer
 readAnswer a s e ten former xs =

@@ -5,14 +5,13 @@ ghost use lib.IntN.{pos, _+ℤ_};
 ghost use Rattle.fields.specs.Views.{zeros};
 ghost use Rattle.item.specs.Said.{refusing};
 ghost use Rattle.item.specs.Contents.{noArgs};
-ghost use Rattle.state.specs.State.{entriesWith, goodReader};
+ghost use Rattle.state.specs.State.{entriesWith, readerWith, goodReader};
 ghost use Rattle.state.specs.Reading.{step, openCall, memoryOf};
 ghost use Rattle.reader.specs.Answers.{
   recordEvent,
   isRecord,
   isCommand,
   ArgsFor,
-  readerWith,
   readAnswer,
   Tells,
   ReadIs,

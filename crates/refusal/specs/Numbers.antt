@@ -1,4 +1,4 @@
--- The number of each refusal, and its values. Document 01, "What a call may say".
+-- The number of each refusal, and its values. docs/FORMAT.md, "What a call may say".
 use Prim.Native.Nat.{ℕ}
 use mathlib.Core.List.{List, [], _∷_}
 use lib.IntN.{ℤ}

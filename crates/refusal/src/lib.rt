@@ -1,4 +1,4 @@
-// The refusals of document 01, by the Rust's names where it has them.
+// The refusals of docs/FORMAT.md, by the Rust's names where it has them.
 ghost use mathlib.Core.Path.{_≡_};
 ghost use Rattle.refusal.specs.Numbers.{numberOf};
 

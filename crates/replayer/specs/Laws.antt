@@ -1,4 +1,4 @@
--- What holds of turns, as statements; proofs/Whole.antt, Bound.antt and EnoughTurns.antt prove each. Document 01, "The replay program".
+-- What holds of turns, as statements; proofs/Whole.antt, Bound.antt and EnoughTurns.antt prove each. docs/FORMAT.md, "The replay program".
 use Prim.Native.Nat.{ℕ, suc, _+_, _≤_}
 use mathlib.Core.Path.{_≡_}
 use mathlib.Core.Bool.{Bool, true, false, cond}

@@ -1,4 +1,4 @@
--- The replay program on the bytes at hand: its window, its lines, one turn. Document 01, "The replay program".
+-- The replay program on the bytes at hand: its window, its lines, one turn. docs/FORMAT.md, "The replay program".
 use Prim.Native.Nat.{ℕ, zero, suc, _+_, _*_, _-_, _/_, min}
 use mathlib.Core.Path.{_≡_}
 use mathlib.Core.Bool.{Bool, true, false}

@@ -1,4 +1,4 @@
--- What holds of a reading call, as statements; proofs/Theorems.antt proves each. Document 01, "What a call may say" and "Ticks and
+-- What holds of a reading call, as statements; proofs/Theorems.antt proves each. docs/FORMAT.md, "What a call may say" and "Ticks and
 -- the board".
 use Prim.Native.Nat.{ℕ, _≤_, _<_}
 use mathlib.Core.Path.{_≡_}

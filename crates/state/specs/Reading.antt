@@ -1,4 +1,4 @@
--- One reading call: what it says, and what it leaves. Document 01, "Ticks and the board" (rules 1 to 7) and "What a call may say".
+-- One reading call: what it says, and what it leaves. docs/FORMAT.md, "Ticks and the board" (rules 1 to 7) and "What a call may say".
 use Prim.Native.Nat.{ℕ, _+_}
 use mathlib.Core.Bool.{Bool, true, false, not, cond}
 use mathlib.Core.List.{List, map}
@@ -47,6 +47,7 @@ use Rattle.state.specs.State.{
   places,
   tenOf,
   withInput,
+  readerWith,
   goodReader,
 }
 use Rattle.state.specs.declared.Pending.{Pending}
@@ -298,12 +299,13 @@ goodCall s m w last = cond (s .closed) (step (refusing Closed) s m) (openCall s 
 abbrev pub memoryOf : Entries → Memory
 memoryOf e = record { entries = e; input = zeros 10; former = zeros 10 }
 
--- a call on any reader
+-- a call on any scalars and memory: 17 comes first
+abbrev pub callOn : Scalars → Memory → List ℕ → Bool → Step
+callOn s m w last = cond (goodReader (readerWith s (m .entries))) (goodCall s m w last) (step (refusing BadState) s m)
+
+-- a call on any reader: beside an answer that is no input event stand zeros
 unfoldable pub readCall : Reader → List ℕ → Bool → Step
-readCall r w last =
-    cond (goodReader r)
-    (goodCall (r .scalars) (memoryOf (r .entries)) w last)
-    (step (refusing BadState) (r .scalars) (memoryOf (r .entries)))
+readCall r w last = callOn (r .scalars) (memoryOf (r .entries)) w last
 
 abbrev pub readerAfter : Step → Reader
-readerAfter t = record { scalars = t .scalars; entries = t .memory .entries }
+readerAfter t = readerWith (t .scalars) (t .memory .entries)

@@ -1,4 +1,4 @@
--- Reader and board: what they hold, the empty ones, which are good (refusal 17 for the others). Document 01, "Ticks and the board".
+-- Reader and board: what they hold, the empty ones, which are good (refusal 17 for the others). docs/FORMAT.md, "Ticks and the board".
 use Prim.Native.Nat.{ℕ, zero, suc, _+_, _*_}
 use mathlib.Core.Bool.{Bool, true, false, not, cond, _&&_}
 use mathlib.Core.List.{List, [], _∷_, map}
@@ -145,6 +145,9 @@ goodPending v (Is k) = goodKind v k
 unfoldable pub goodScalars : Scalars → Bool
 goodScalars s =
     nonNeg (s .tick) && (leZ (negsuc 0) (s .largest) && goodPending (s .version) (s .pending))
+
+abbrev pub readerWith : Scalars → Entries → Reader
+readerWith s e = record { scalars = s; entries = e }
 
 unfoldable pub goodReader : Reader → Bool
 goodReader r = goodScalars (r .scalars) && goodEntries (r .entries)

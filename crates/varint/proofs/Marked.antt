@@ -1,4 +1,4 @@
--- Each marked integer of document 01 is read as it says. Assumes nothing.
+-- Each marked integer of docs/FORMAT.md is read as it says. Assumes nothing.
 use mathlib.Core.Path.{_≡_, refl}
 use mathlib.Core.List.{map}
 use Rattle.varint.specs.Integers.{amount, valueOf, remarkOf, readFrom, readInt}

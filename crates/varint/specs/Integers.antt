@@ -1,4 +1,4 @@
--- Reading an integer. Document 01, "Integers". Bytes and digits are naturals; only a value is a ℤ.
+-- Reading an integer. docs/FORMAT.md, "Integers". Bytes and digits are naturals; only a value is a ℤ.
 use Prim.Native.Nat.{ℕ, _+_, _-_, _*_, _/_, _%_}
 use mathlib.Core.Bool.{Bool, true, cond}
 use mathlib.Core.List.{List, [], _∷_}

@@ -1,4 +1,4 @@
--- The marked integers of document 01: bytes, and what reading them answers.
+-- The marked integers of docs/FORMAT.md: bytes, and what reading them answers.
 use Prim.Native.Nat.{ℕ}
 use mathlib.Core.List.{List, [], _∷_}
 use lib.IntN.{ℤ, pos, negℤ}

@@ -1,5 +1,5 @@
 -- The written form of an integer: the one without a remark. What a target holds after bytes are written there, and the answer.
--- Document 01, "Integers" and "The writer".
+-- docs/FORMAT.md, "Integers" and "The writer".
 use Prim.Native.Nat.{ℕ, zero, suc, _+_, _/_, _%_}
 use mathlib.Core.Bool.{Bool, cond}
 use mathlib.Core.List.{List, [], _∷_, _++_}

@@ -1,4 +1,4 @@
--- What holds of records, as statements; proofs/Theorems.antt proves each. Document 01, demand 2.
+-- What holds of records, as statements; proofs/Theorems.antt proves each. docs/FORMAT.md, "Round trips".
 use Prim.Native.Nat.{ℕ, _≤_}
 use mathlib.Core.Path.{_≡_}
 use mathlib.Core.Bool.{Bool, true, false}

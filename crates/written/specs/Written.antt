@@ -1,4 +1,4 @@
--- The written form of a record, and which records have one. Document 01, "The writer".
+-- The written form of a record, and which records have one. docs/FORMAT.md, "The writer".
 use Prim.Native.Nat.{ℕ}
 use mathlib.Core.Bool.{Bool, true, false, _&&_}
 use mathlib.Core.List.{List, [], _∷_, _++_}

@@ -5,9 +5,8 @@ use native.Mathlib.Omega.{arith}
 use borrow.Author.Needs.{needs}
 use mir.Syntax.{w32}
 use mir.Val.{toZ, ofZ}
-use Rattle.state.specs.State.{entriesWith, memory}
+use Rattle.state.specs.State.{entriesWith, memory, readerWith}
 use Rattle.many.specs.Many.{calls}
-use Rattle.many.specs.Stores.{readerWith}
 use Rattle.many.proofs.Turns.{Going, starts, full, fits, turn, more, finish, refused}
 use Rattle.many.proofs.read_rows.Statement.{statement}
 use Rattle.many.proofs.read_rows.Tie as tie

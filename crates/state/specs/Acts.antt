@@ -1,0 +1,193 @@
+-- The acts of a reading call: all that a call on an open reader may do. Each has what holds before it, what it says and what it leaves.
+-- That every call is one of them is proved once (proofs/Acts.antt); a law of calls is then a clause for each act. docs/FORMAT.md, "Ticks
+-- and the board" and "What a call may say".
+use Prim.Native.Nat.{ℕ}
+use mathlib.Core.Path.{_≡_}
+use mathlib.Core.Bool.{Bool, true, false}
+use mathlib.Core.List.{List}
+use lib.ListN.{drop}
+use lib.Dec.{ltb}
+use lib.IntN.{ℤ, pos, _+ℤ_}
+use Rattle.refusal.specs.declared.Refusal.{Refusal}
+use Rattle.refusal.specs.declared.Refusal.the-variants.{PlayerNewDuplicate, BadState, Closed}
+use Rattle.num.specs.Wrap.{wrap32}
+use Rattle.packer.specs.declared.Part.{Part}
+use Rattle.fields.specs.Fields.{got}
+use Rattle.fields.specs.Views.{numbers}
+use Rattle.item.specs.Said.{Said, gives, more, finish, refusing}
+use Rattle.item.specs.Said as said
+use Rattle.item.specs.Records.{Content, readRest}
+use Rattle.item.specs.Contents.{cidOf}
+use Rattle.item.specs.declared.Kind.{Kind}
+use Rattle.item.specs.declared.Kind.the-variants as kinds
+use Rattle.item.specs.declared.Cid.the-variants.{Of, NoCid}
+use Rattle.state.specs.State.{Memory, withEntries, present, xOf, yOf, withPlayer, moved, holds, tenOf, withInput, goodReader}
+use Rattle.state.specs.Reading.{
+  Event,
+  tickStart,
+  tickEnd,
+  playerNew,
+  playerChange,
+  playerOld,
+  input,
+  other,
+  Step,
+  step,
+  closing,
+  raising,
+  naming,
+  starting,
+  ending,
+  skipping,
+  nextTick,
+  sums,
+  dtOf,
+  first,
+  second,
+  atOrBelow,
+  nextKind,
+  openCall,
+  memoryOf,
+  readCall,
+}
+use Rattle.state.specs.declared.Entries.{Entries}
+use Rattle.state.specs.declared.Scalars.{Scalars}
+use Rattle.state.specs.declared.Reader.{Reader}
+use Rattle.state.specs.declared.Next.the-variants.{Tick}
+
+-- ---- what a call says and leaves, whatever ten numbers and former ten stood in the memory
+
+abbrev pub says : Said Event → Scalars → Entries → Memory → Step
+says x t e m = step x t (withEntries e m)
+
+abbrev pub refuses : Refusal → Scalars → Entries → Memory → Step
+refuses r t e m = says (refusing r) (closing t) e m
+
+-- client c's ten numbers become ns; had: it had some before
+abbrev pub saysInput : ℕ → Bool → List ℤ → ℕ → Scalars → Entries → Memory → Step
+saysInput c had ns n t e m =
+    step (gives (input (pos c) had) n) t (record { entries = withInput e c 1 ns; input = ns; former = tenOf (e .inputs) c })
+
+-- ---- what was read
+
+-- the kind k, pending or read, ends before byte n
+pub record HadKind (s : Scalars) (w : List ℕ) (k : Kind) (n : ℕ) : Type 0 where
+  pub read : nextKind (s .version) (s .pending) w ≡ got k n
+
+-- a record of kind k with the content c ends before byte n
+pub record Had (s : Scalars) (w : List ℕ) (k : Kind) (c : Content Part) (n : ℕ) : Type 0 where
+  pub at : ℕ
+  pub kind : HadKind s w k at
+  pub rest : readRest k w at ≡ got c n
+
+abbrev pub firstOf : Content Part → ℤ
+firstOf r = first (numbers (r .values))
+
+abbrev pub secondOf : Content Part → ℤ
+secondOf r = second (numbers (r .values))
+
+abbrev pub othersOf : Content Part → List ℤ
+othersOf r = drop 1 (numbers (r .values))
+
+-- the kind of a player record, and its client
+pub data PlayerKind : Kind → ℤ → Type 0 where
+  diffKind : {c : ℤ} → PlayerKind (kinds.PlayerDiff c) c
+  newKind : {c : ℤ} → PlayerKind (kinds.PlayerNew c) c
+  oldKind : {c : ℤ} → PlayerKind (kinds.PlayerOld c) c
+
+-- the kind of a record that changes no entry
+pub data OtherKind : Kind → Type 0 where
+  messageKind : OtherKind kinds.Message
+  joinKind : OtherKind kinds.Join
+  dropKind : OtherKind kinds.Drop
+  commandKind : OtherKind kinds.ConsoleCommand
+  exKind : OtherKind kinds.Ex
+
+-- a record of the kind comes inside a tick
+abbrev pub wantsTick : Kind → Bool
+wantsTick (kinds.PlayerDiff c) = true
+wantsTick kinds.Finish = false
+wantsTick kinds.TickSkip = false
+wantsTick (kinds.PlayerNew c) = true
+wantsTick (kinds.PlayerOld c) = true
+wantsTick kinds.InputDiff = true
+wantsTick kinds.InputNew = true
+wantsTick kinds.Message = true
+wantsTick kinds.Join = true
+wantsTick kinds.Drop = true
+wantsTick kinds.ConsoleCommand = true
+wantsTick kinds.Ex = true
+
+-- inside a tick whose last player record, if any, was of a lower client: client c may come
+pub record MayCome (s : Scalars) (c : ℤ) : Type 0 where
+  pub inside : s .inside ≡ true
+  pub rises : atOrBelow c (s .remembered) ≡ false
+
+-- ---- the acts, on scalars s and entries e, with the window w
+
+pub data Act (s : Scalars) (e : Entries) (w : List ℕ) (last : Bool) : (Memory → Step) → Type 0 where
+  -- no event
+  wantsMore : last ≡ false → Act s e w last (says more s e)
+  finishes : {c : Content Part} {n : ℕ} → Had s w kinds.Finish c n → s .inside ≡ false → Act s e w last (says (finish n) (closing s) e)
+  refusesPlain : (r : Refusal) → Act s e w last (refuses r s e)
+  refusesPlayer : (r : Refusal) (c : ℤ) → Act s e w last (refuses r (naming c s) e)
+  refusesInput : (r : Refusal) (c : ℤ) → Act s e w last (refuses r (raising (Of c) s) e)
+  refuses13 : (c : ℕ) (x y : ℤ) → ltb c 128 ≡ true → present e c ≡ true
+      → Act s e w last (refuses PlayerNewDuplicate (naming (pos c) s) (withPlayer e c 1 x y))
+  -- a tick starts or ends, and the kind stays pending; a TickSkip
+  tickStarts : {k : Kind} {n : ℕ} → HadKind s w k n → wantsTick k ≡ true → s .inside ≡ false
+      → Act s e w last (says (gives (tickStart (s .tick)) n) (starting k s) e)
+  tickEnds : {k : Kind} {n : ℕ} {c t : ℤ} → HadKind s w k n → PlayerKind k c → s .inside ≡ true → atOrBelow c (s .remembered) ≡ true
+      → nextTick (s .tick) 0 ≡ Tick t → Act s e w last (says (gives (tickEnd (s .tick)) n) (ending t NoCid k s) e)
+  lastTickEnds : {n : ℕ} → HadKind s w kinds.Finish n → s .inside ≡ true
+      → Act s e w last (says (gives (tickEnd (s .tick)) n) (ending (s .tick) (s .remembered) kinds.Finish s) e)
+  skipStarts : {r : Content Part} {n : ℕ} {t : ℤ} → Had s w kinds.TickSkip r n → s .inside ≡ false
+      → nextTick (s .tick) (dtOf (firstOf r)) ≡ Tick t → Act s e w last (says (gives (tickStart t) n) (skipping t true s) e)
+  skipEnds : {r : Content Part} {n : ℕ} {t : ℤ} → Had s w kinds.TickSkip r n → s .inside ≡ true
+      → nextTick (s .tick) (dtOf (firstOf r)) ≡ Tick t → Act s e w last (says (gives (tickEnd (s .tick)) n) (skipping t false s) e)
+  -- a player comes, moves or leaves
+  playerComes : {c : ℕ} {r : Content Part} {n : ℕ} → Had s w (kinds.PlayerNew (pos c)) r n → MayCome s (pos c) → ltb c 128 ≡ true
+      → present e c ≡ false → Act s e w last
+      (says (gives (playerNew (pos c) (firstOf r) (secondOf r)) n) (naming (pos c) s) (withPlayer e c 1 (firstOf r) (secondOf r)))
+  playerMoves : {c : ℕ} {r : Content Part} {n : ℕ} {x y : ℤ} → Had s w (kinds.PlayerDiff (pos c)) r n → MayCome s (pos c)
+      → present e c ≡ true → x ≡ wrap32 (xOf e c +ℤ firstOf r) → y ≡ wrap32 (yOf e c +ℤ secondOf r)
+      → Act s e w last (says (gives (playerChange (pos c) x y (xOf e c) (yOf e c)) n) (naming (pos c) s) (moved e c x y))
+  playerLeaves : {c : ℕ} {r : Content Part} {n : ℕ} → Had s w (kinds.PlayerOld (pos c)) r n → MayCome s (pos c) → present e c ≡ true
+      → Act s e w last (says (gives (playerOld (pos c) (xOf e c) (yOf e c)) n) (naming (pos c) s) (withPlayer e c 0 (pos 0) (pos 0)))
+  -- an input; any other record
+  inputComes : {c : ℕ} {r : Content Part} {n : ℕ} → Had s w kinds.InputNew r n → s .inside ≡ true → firstOf r ≡ pos c → ltb c 128 ≡ true
+      → Act s e w last (saysInput c (holds e c) (othersOf r) n (raising (Of (pos c)) s) e)
+  inputMoves : {c : ℕ} {r : Content Part} {n : ℕ} → Had s w kinds.InputDiff r n → s .inside ≡ true → firstOf r ≡ pos c
+      → holds e c ≡ true → Act s e w last (saysInput c true (sums (tenOf (e .inputs) c) (othersOf r)) n (raising (Of (pos c)) s) e)
+  passes : {k : Kind} {r : Content Part} {n : ℕ} → Had s w k r n → OtherKind k → s .inside ≡ true
+      → Act s e w last (says (gives (other r) n) (raising (cidOf r) s) e)
+
+-- ---- a call on any reader: on one that is not good, or closed, nothing is read
+
+pub data ReadAct (r : Reader) (w : List ℕ) (last : Bool) : Step → Type 0 where
+  onBad : goodReader r ≡ false → ReadAct r w last (step (refusing BadState) (r .scalars) (memoryOf (r .entries)))
+  onClosed : goodReader r ≡ true → r .scalars .closed ≡ true → ReadAct r w last (step (refusing Closed) (r .scalars) (memoryOf (r .entries)))
+  onOpen : {f : Memory → Step} → goodReader r ≡ true → r .scalars .closed ≡ false → Act (r .scalars) (r .entries) w last f
+      → ReadAct r w last (f (memoryOf (r .entries)))
+
+-- ---- every call is one of them
+
+abbrev pub CallsAreActs : Type 0
+CallsAreActs =
+    (s : Scalars) (e : Entries) (w : List ℕ) (last : Bool) → Act s e w last (λ (m : Memory). openCall s (withEntries e m) w last)
+
+abbrev pub ReadCallsAreActs : Type 0
+ReadCallsAreActs = (r : Reader) (w : List ℕ) (last : Bool) → ReadAct r w last (readCall r w last)
+
+-- ---- and a call whose act gives an event or finishes is known by that act: to know what a call does, name its act
+
+abbrev pub tells : Said Event → Bool
+tells (gives e n) = true
+tells more = false
+tells (finish n) = true
+tells (said.refuses k vs) = false
+
+abbrev pub ActsAreCalls : Type 0
+ActsAreCalls =
+    (s : Scalars) (e : Entries) (w : List ℕ) (last : Bool) (f : Memory → Step) → Act s e w last f → (m : Memory)
+    → tells (f m .said) ≡ true → openCall s (withEntries e m) w last ≡ f m
