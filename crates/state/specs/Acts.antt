@@ -7,15 +7,25 @@ use mathlib.Core.Bool.{Bool, true, false}
 use mathlib.Core.List.{List}
 use lib.ListN.{drop}
 use lib.Dec.{ltb}
-use lib.IntN.{ℤ, pos, _+ℤ_}
+use lib.IntN.{ℤ, pos, negsuc, _+ℤ_}
 use Rattle.refusal.specs.declared.Refusal.{Refusal}
-use Rattle.refusal.specs.declared.Refusal.the-variants.{PlayerNewDuplicate, BadState, Closed}
+use Rattle.refusal.specs.declared.Refusal.the-variants.{
+  UnexpectedEnd,
+  InvalidClientId,
+  ClientTooLarge,
+  TickOverflow,
+  PlayerNewDuplicate,
+  PlayerDiffWithoutNew,
+  PlayerOldWithoutNew,
+  InputDiffWithoutNew,
+  BadState,
+  Closed,
+}
 use Rattle.num.specs.Wrap.{wrap32}
 use Rattle.packer.specs.declared.Part.{Part}
-use Rattle.fields.specs.Fields.{got}
+use Rattle.fields.specs.Fields.{got, runsOut, refused}
 use Rattle.fields.specs.Views.{numbers}
 use Rattle.item.specs.Said.{Said, gives, more, finish, refusing}
-use Rattle.item.specs.Said as said
 use Rattle.item.specs.Records.{Content, readRest}
 use Rattle.item.specs.Contents.{cidOf}
 use Rattle.item.specs.declared.Kind.{Kind}
@@ -53,7 +63,7 @@ use Rattle.state.specs.Reading.{
 use Rattle.state.specs.declared.Entries.{Entries}
 use Rattle.state.specs.declared.Scalars.{Scalars}
 use Rattle.state.specs.declared.Reader.{Reader}
-use Rattle.state.specs.declared.Next.the-variants.{Tick}
+use Rattle.state.specs.declared.Next.the-variants.{Tick, Past}
 
 -- ---- what a call says and leaves, whatever ten numbers and former ten stood in the memory
 
@@ -95,6 +105,11 @@ pub data PlayerKind : Kind → ℤ → Type 0 where
   newKind : {c : ℤ} → PlayerKind (kinds.PlayerNew c) c
   oldKind : {c : ℤ} → PlayerKind (kinds.PlayerOld c) c
 
+-- the kind of an input
+pub data InputKind : Kind → Type 0 where
+  diffInput : InputKind kinds.InputDiff
+  newInput : InputKind kinds.InputNew
+
 -- the kind of a record that changes no entry
 pub data OtherKind : Kind → Type 0 where
   messageKind : OtherKind kinds.Message
@@ -123,17 +138,74 @@ pub record MayCome (s : Scalars) (c : ℤ) : Type 0 where
   pub inside : s .inside ≡ true
   pub rises : atOrBelow c (s .remembered) ≡ false
 
+-- the tick rules let a record of the kind be read
+abbrev pub MayRead : Scalars → Kind → Type 0
+MayRead s (kinds.PlayerDiff c) = MayCome s c
+MayRead s kinds.Finish = s .inside ≡ false
+MayRead s kinds.TickSkip = Unit {0}
+MayRead s (kinds.PlayerNew c) = MayCome s c
+MayRead s (kinds.PlayerOld c) = MayCome s c
+MayRead s kinds.InputDiff = s .inside ≡ true
+MayRead s kinds.InputNew = s .inside ≡ true
+MayRead s kinds.Message = s .inside ≡ true
+MayRead s kinds.Join = s .inside ≡ true
+MayRead s kinds.Drop = s .inside ≡ true
+MayRead s kinds.ConsoleCommand = s .inside ≡ true
+MayRead s kinds.Ex = s .inside ≡ true
+
+-- ---- why a call gives no event
+
+-- the bytes needed run out: those of the kind, or those of a record that may be read
+pub data BytesRunOut (s : Scalars) (w : List ℕ) : Type 0 where
+  inKind : nextKind (s .version) (s .pending) w ≡ runsOut → BytesRunOut s w
+  inRest : {k : Kind} {n : ℕ} → HadKind s w k n → MayRead s k → readRest k w n ≡ runsOut → BytesRunOut s w
+
+-- 3 to 7 and 12: no record was read, or a TickSkip
+pub data WhyPlain (s : Scalars) (w : List ℕ) (last : Bool) : Refusal → Type 0 where
+  noMoreCome : last ≡ true → BytesRunOut s w → WhyPlain s w last UnexpectedEnd
+  kindRefused : {r : Refusal} → nextKind (s .version) (s .pending) w ≡ refused r → WhyPlain s w last r
+  restRefused : {r : Refusal} {k : Kind} {n : ℕ} → HadKind s w k n → MayRead s k → readRest k w n ≡ refused r → WhyPlain s w last r
+  endsPast : {k : Kind} {n : ℕ} {c : ℤ} → HadKind s w k n → PlayerKind k c → s .inside ≡ true → atOrBelow c (s .remembered) ≡ true
+      → nextTick (s .tick) 0 ≡ Past → WhyPlain s w last TickOverflow
+  skipsPast : {r : Content Part} {n : ℕ} → Had s w kinds.TickSkip r n → nextTick (s .tick) (dtOf (firstOf r)) ≡ Past
+      → WhyPlain s w last TickOverflow
+
+-- 8, 10, 14 and 15: a player record of client c was read
+pub data WhyPlayer (s : Scalars) (e : Entries) (w : List ℕ) : Refusal → ℤ → Type 0 where
+  newNegative : {c : ℕ} {r : Content Part} {n : ℕ} → Had s w (kinds.PlayerNew (negsuc c)) r n → MayCome s (negsuc c)
+      → WhyPlayer s e w InvalidClientId (negsuc c)
+  newTooLarge : {c : ℕ} {r : Content Part} {n : ℕ} → Had s w (kinds.PlayerNew (pos c)) r n → MayCome s (pos c) → ltb c 128 ≡ false
+      → WhyPlayer s e w ClientTooLarge (pos c)
+  diffNegative : {c : ℕ} {r : Content Part} {n : ℕ} → Had s w (kinds.PlayerDiff (negsuc c)) r n → MayCome s (negsuc c)
+      → WhyPlayer s e w PlayerDiffWithoutNew (negsuc c)
+  diffAbsent : {c : ℕ} {r : Content Part} {n : ℕ} → Had s w (kinds.PlayerDiff (pos c)) r n → MayCome s (pos c) → present e c ≡ false
+      → WhyPlayer s e w PlayerDiffWithoutNew (pos c)
+  oldNegative : {c : ℕ} {r : Content Part} {n : ℕ} → Had s w (kinds.PlayerOld (negsuc c)) r n → MayCome s (negsuc c)
+      → WhyPlayer s e w InvalidClientId (negsuc c)
+  oldAbsent : {c : ℕ} {r : Content Part} {n : ℕ} → Had s w (kinds.PlayerOld (pos c)) r n → MayCome s (pos c) → present e c ≡ false
+      → WhyPlayer s e w PlayerOldWithoutNew (pos c)
+
+-- 8, 10 and 16: an input of client c was read
+pub data WhyInput (s : Scalars) (e : Entries) (w : List ℕ) : Refusal → ℤ → Type 0 where
+  inputNegative : {k : Kind} {c : ℕ} {r : Content Part} {n : ℕ} → Had s w k r n → InputKind k → s .inside ≡ true → firstOf r ≡ negsuc c
+      → WhyInput s e w InvalidClientId (negsuc c)
+  inputTooLarge : {c : ℕ} {r : Content Part} {n : ℕ} → Had s w kinds.InputNew r n → s .inside ≡ true → firstOf r ≡ pos c
+      → ltb c 128 ≡ false → WhyInput s e w ClientTooLarge (pos c)
+  inputAbsent : {c : ℕ} {r : Content Part} {n : ℕ} → Had s w kinds.InputDiff r n → s .inside ≡ true → firstOf r ≡ pos c
+      → holds e c ≡ false → WhyInput s e w InputDiffWithoutNew (pos c)
+
 -- ---- the acts, on scalars s and entries e, with the window w
 
 pub data Act (s : Scalars) (e : Entries) (w : List ℕ) (last : Bool) : (Memory → Step) → Type 0 where
   -- no event
-  wantsMore : last ≡ false → Act s e w last (says more s e)
+  wantsMore : last ≡ false → BytesRunOut s w → Act s e w last (says more s e)
   finishes : {c : Content Part} {n : ℕ} → Had s w kinds.Finish c n → s .inside ≡ false → Act s e w last (says (finish n) (closing s) e)
-  refusesPlain : (r : Refusal) → Act s e w last (refuses r s e)
-  refusesPlayer : (r : Refusal) (c : ℤ) → Act s e w last (refuses r (naming c s) e)
-  refusesInput : (r : Refusal) (c : ℤ) → Act s e w last (refuses r (raising (Of c) s) e)
-  refuses13 : (c : ℕ) (x y : ℤ) → ltb c 128 ≡ true → present e c ≡ true
-      → Act s e w last (refuses PlayerNewDuplicate (naming (pos c) s) (withPlayer e c 1 x y))
+  refusesPlain : (r : Refusal) → WhyPlain s w last r → Act s e w last (refuses r s e)
+  refusesPlayer : (r : Refusal) (c : ℤ) → WhyPlayer s e w r c → Act s e w last (refuses r (naming c s) e)
+  refusesInput : (r : Refusal) (c : ℤ) → WhyInput s e w r c → Act s e w last (refuses r (raising (Of c) s) e)
+  refuses13 : {c : ℕ} {r : Content Part} {n : ℕ} → Had s w (kinds.PlayerNew (pos c)) r n → MayCome s (pos c) → ltb c 128 ≡ true
+      → present e c ≡ true
+      → Act s e w last (refuses PlayerNewDuplicate (naming (pos c) s) (withPlayer e c 1 (firstOf r) (secondOf r)))
   -- a tick starts or ends, and the kind stays pending; a TickSkip
   tickStarts : {k : Kind} {n : ℕ} → HadKind s w k n → wantsTick k ≡ true → s .inside ≡ false
       → Act s e w last (says (gives (tickStart (s .tick)) n) (starting k s) e)
@@ -179,15 +251,9 @@ CallsAreActs =
 abbrev pub ReadCallsAreActs : Type 0
 ReadCallsAreActs = (r : Reader) (w : List ℕ) (last : Bool) → ReadAct r w last (readCall r w last)
 
--- ---- and a call whose act gives an event or finishes is known by that act: to know what a call does, name its act
-
-abbrev pub tells : Said Event → Bool
-tells (gives e n) = true
-tells more = false
-tells (finish n) = true
-tells (said.refuses k vs) = false
+-- ---- and a call is known by its act: to know what a call does, name its act
 
 abbrev pub ActsAreCalls : Type 0
 ActsAreCalls =
     (s : Scalars) (e : Entries) (w : List ℕ) (last : Bool) (f : Memory → Step) → Act s e w last f → (m : Memory)
-    → tells (f m .said) ≡ true → openCall s (withEntries e m) w last ≡ f m
+    → openCall s (withEntries e m) w last ≡ f m
