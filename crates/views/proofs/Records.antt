@@ -1,0 +1,74 @@
+-- A record with what stands beside it is known by its content. Assumes nothing.
+use mathlib.Core.Path.{_≡_, refl, sym, ap, _∙_}
+use mathlib.Core.List.{List, [], _∷_, _++_, map, append-cancel-left}
+use lib.ListN.{take}
+use lib.IntN.{ℤ}
+use Rattle.packer.specs.declared.Part.{Part}
+use Rattle.fields.specs.Fields.{Value, num}
+use Rattle.fields.specs.Views.{zeros, argsWith, numbers}
+use Rattle.fields.specs.declared.Args.{Args}
+use Rattle.item.specs.Records.{Content}
+use Rattle.item.specs.Contents.{itemOf, besideKind, beside, withBeside, noArgs, recordWith, tidyKind, tidyTag}
+use Rattle.item.specs.declared.Kind.{Kind}
+use Rattle.item.specs.declared.Kind.the-variants as kinds
+use Rattle.item.specs.declared.Tag.{Tag}
+use Rattle.item.specs.declared.Tag.the-variants.{Plain, Named, Other}
+use Rattle.item.specs.declared.Item.{Item}
+use Rattle.item.specs.declared.Record.{Record}
+use Rattle.views.specs.Shown.{RecordsShown}
+use Rattle.views.proofs.Items.{same-item}
+
+-- ---- what stands beside a record, from the content
+
+abbrev nums : List ℤ → List (Value Part)
+nums zs = map num zs
+
+numbers-num : (zs : List ℤ) → numbers (nums zs) ≡ zs
+unfolding numbers
+numbers-num [] = refl
+numbers-num (z ∷ zs) = ap (λ (l : List ℤ). z ∷ l) (numbers-num zs)
+
+pub same-ten : (a b : List ℤ) → nums a ≡ nums b → a ≡ b
+same-ten a b e = sym (numbers-num a) ∙ ap numbers e ∙ numbers-num b
+
+pub same-beside : (i : Item) (ten ten' : List ℤ) (xs ys : Args) → withBeside (itemOf i) ten xs ≡ withBeside (itemOf i) ten' ys
+    → beside (itemOf i .tag) ten xs ≡ beside (itemOf i .tag) ten' ys
+same-beside i ten ten' xs ys e = append-cancel-left (itemOf i .values) _ _ (ap (λ (c : Content Part). c .values) e)
+
+-- ---- and nothing else stands there
+
+module _ (a b : Record) (i : a .item ≡ b .item) where
+  same-none : recordWith (a .item) (zeros 10) noArgs ≡ a → recordWith (b .item) (zeros 10) noArgs ≡ b → a ≡ b
+  same-none ta tb = sym ta ∙ rw i tb
+
+  same-input : recordWith (a .item) (a .input) noArgs ≡ a → recordWith (b .item) (b .input) noArgs ≡ b
+      → nums (a .input) ≡ nums (b .input) → a ≡ b
+  same-input ta tb e = let t : a .input ≡ b .input = same-ten (a .input) (b .input) e in sym ta ∙ rw (i, t) tb
+
+  same-kind : (k : Kind) → tidyKind k a ≡ a → tidyKind k b ≡ b
+      → besideKind k (a .input) (a .args) ≡ besideKind k (b .input) (b .args) → a ≡ b
+  same-kind (kinds.PlayerDiff c) ta tb e = same-none ta tb
+  same-kind kinds.Finish ta tb e = same-none ta tb
+  same-kind kinds.TickSkip ta tb e = same-none ta tb
+  same-kind (kinds.PlayerNew c) ta tb e = same-none ta tb
+  same-kind (kinds.PlayerOld c) ta tb e = same-none ta tb
+  same-kind kinds.InputDiff ta tb e = same-input ta tb e
+  same-kind kinds.InputNew ta tb e = same-input ta tb e
+  same-kind kinds.Message ta tb e = same-none ta tb
+  same-kind kinds.Join ta tb e = same-none ta tb
+  same-kind kinds.Drop ta tb e = same-none ta tb
+  same-kind kinds.ConsoleCommand ta tb e =
+      let t : take (a .args .count) (a .args .parts) ≡ take (b .args .count) (b .args .parts) = cc in sym ta ∙ rw (i, t) tb
+  same-kind kinds.Ex ta tb e = same-none ta tb
+
+  same-tag : (t : Tag) → tidyTag t a ≡ a → tidyTag t b ≡ b → beside t (a .input) (a .args) ≡ beside t (b .input) (b .args) → a ≡ b
+  same-tag (Plain k) ta tb e = same-kind k ta tb e
+  same-tag (Named k) ta tb e = same-none ta tb
+  same-tag Other ta tb e = same-none ta tb
+
+pub records-shown : RecordsShown
+records-shown a b ta tb e =
+    let i : a .item ≡ b .item = same-item (a .item) (b .item) (a .input) (b .input) (a .args) (b .args) e in
+    same-tag a b i (itemOf (a .item) .tag) ta (rw i tb)
+    (same-beside (a .item) (a .input) (b .input) (a .args) (b .args)
+    (e ∙ ap (λ (j : Item). withBeside (itemOf j) (b .input) (b .args)) (sym i)))
