@@ -76,9 +76,8 @@ writable args (bytes b) = false
 writable args (strings bs) = leb (length bs) 16 && allNoZero bs
 
 abbrev pub allWritable : List Field → List (Value (List ℕ)) → Bool
-allWritable [] [] = true
-allWritable [] (v ∷ vs) = false
-allWritable (f ∷ fs) [] = false
+allWritable [] vs = true
+allWritable (f ∷ fs) [] = true
 allWritable (f ∷ fs) (v ∷ vs) = writable f v && allWritable fs vs
 
 -- ---- the written form

@@ -6,6 +6,7 @@ ghost use Rattle.packer.specs.Parts.{shown};
 ghost use Rattle.shapes.specs.Shapes.{idPart};
 ghost use Rattle.item.specs.Extensions.{same, find};
 ghost use Rattle.item.specs.Magic.{readMagic};
+ghost use Rattle.item.specs.Views.{magicIs};
 ghost use Rattle.ids.specs.Table.{table, rowAt, number};
 use item::MagicRead;
 use refusal::Refusal;
@@ -158,7 +159,7 @@ pub fn find_id(s: &[u8], at: usize) -> usize
 
 // The magic call: 16 bytes used, or a refusal.
 pub fn read_magic(s: &[u8]) -> MagicRead
-    ensures { λ r. ⌜ r ≡ readMagic (now (s .entry)) ⌝ }
+    ensures { λ r. ⌜ magicIs r ≡ readMagic (now (s .entry)) ⌝ }
 {
     if s.len() < 16 {
         return MagicRead::Refused(Refusal::UnexpectedEnd);

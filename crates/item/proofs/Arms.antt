@@ -9,19 +9,19 @@ use lib.Signed.{ltZ}
 use borrow.Author.Tests.{ltb-true, ltb-false}
 use mir.Syntax.{w32}
 use mir.Val.{SFits, toZ, ofZ}
+use Rattle.refusal.specs.Said.{refusing}
 use Rattle.refusal.specs.declared.Refusal.the-variants.{UnknownVersion, UnknownType}
 use Rattle.num.proofs.Signs.{key}
 use Rattle.fields.specs.Fields.{got, refused}
 use Rattle.item.specs.Kinds.{kindOf}
 use Rattle.item.specs.Magic.{versionOf}
 use Rattle.item.specs.declared.Version.{Version}
-use Rattle.item.specs.declared.VersionOf.the-variants.{Refused}
 use Rattle.item.specs.declared.Kind.the-variants.{PlayerDiff}
 
 -- ---- versions
 
 -- a number whose bits are neither those of 1 nor those of 2
-pub no-version : (z : ℤ) → (ofZ w32 z ≡ 1 → ⊥) → (ofZ w32 z ≡ 2 → ⊥) → Refused UnknownVersion ≡ versionOf z
+pub no-version : (z : ℤ) → (ofZ w32 z ≡ 1 → ⊥) → (ofZ w32 z ≡ 2 → ⊥) → refusing UnknownVersion ≡ versionOf z
 no-version (pos zero) p q = refl
 no-version (pos (suc zero)) p q = absurd (p refl)
 no-version (pos (suc (suc zero))) p q = absurd (q refl)

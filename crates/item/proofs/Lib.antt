@@ -1,3 +1,4 @@
 pub mod Arms
 pub mod Clients
 pub mod Apart
+pub mod Lengths

@@ -5,7 +5,7 @@ ghost use Rattle.item.specs.Extensions.{hasClient};
 ghost use Rattle.item.specs.Kinds.{playerKind, withClient, kindOf, readKind, kindNumber};
 ghost use Rattle.item.specs.Contents.{itemOf, kindCid, cidOf, tagNumber, takenOf, TakenApart};
 ghost use Rattle.item.specs.Magic.{versionOf};
-ghost use Rattle.item.specs.Views.{kindIs};
+ghost use Rattle.item.specs.Views.{kindIs, versionIs};
 use fields::Args;
 use packer::Part;
 use refusal::Refusal;
@@ -245,7 +245,7 @@ pub struct Taken {
 }
 
 pub fn version_of(number: i32) -> VersionOf
-    ensures { λ r. ⌜ r ≡ versionOf number ⌝ }
+    ensures { λ r. ⌜ versionIs r ≡ versionOf number ⌝ }
 {
     match number {
         1 => VersionOf::Is(Version::V1),

@@ -4,12 +4,10 @@ use mathlib.Core.Path.{_≡_, refl, sym, _∙_, ap}
 use mathlib.Core.Bool.{Bool, true, false, _&&_}
 use mathlib.Core.List.{List, [], _∷_, _++_, map, append-nil, append-assoc}
 use native.Mathlib.Omega.{arith}
-use lib.ListN.{length, take, length-map, length-take}
-use native.Mathlib.Nat.{min-le-left}
+use lib.ListN.{length, length-map}
 use lib.Dec.{leb}
 use lib.IntN.{ℤ}
 use lib.Signed.{nonNeg}
-use borrow.Author.Tests.{le-leb, leb-true}
 use mir.Syntax.{w32}
 use mir.Val.{SFits, toZ, ofZ}
 use mir.Facts.{toZ-ofZ}
@@ -23,14 +21,10 @@ use Rattle.item.specs.declared.Version.{Version}
 use Rattle.item.specs.declared.Kind.{Kind}
 use Rattle.item.specs.declared.Kind.the-variants as kinds
 use Rattle.item.specs.declared.Tag.the-variants.{Plain}
+use Rattle.written.proofs.Unwritable.{ints-inside, few-args}
 use Rattle.plans.specs.Plans.{argsIn}
 use Rattle.outlines.specs.Outlines.{kindOutline, outlineOk, outlineBytes, contentOk, contentBytes}
-use Rattle.outlines.proofs.Tests.{one-text, command, small-dt, dt-is, ints-inside, ten-writable, ten-written, strings-are}
-
-few-args : (n : ℕ) {A : Type 0} {B : Type 0} (f : A → B) (xs : List A) → leb n 16 ≡ true → leb (length (map f (take n xs))) 16 ≡ true
-few-args n f xs e =
-    let l = length-map (take n xs) f ∙ length-take n xs in
-    le-leb (length (map f (take n xs))) 16 (omega (arith, l, min-le-left n (length xs), leb-true n 16 e))
+use Rattle.outlines.proofs.Tests.{one-text, command, small-dt, dt-is, ten-writable, ten-written, strings-are}
 
 module _ (v : Version) (s : List ℕ) (f : Fields) (ten : List ℤ) (xs : Args) (a : SFits w32 (f .first)) (h : length ten ≡ 10) where
   pub plain-ok : (k : Kind) → contentOk v s (fromFields (Plain k) f) ten xs ≡ outlineOk (kindOutline k (f .first)) s f xs

@@ -16,7 +16,7 @@ use Rattle.packer.specs.Texts.{noZero}
 use Rattle.packer.specs.declared.Part.{Part}
 use Rattle.fields.specs.Fields.{int, num, mean}
 use Rattle.fields.specs.Views.{tenFields}
-use Rattle.fields.specs.Writing.{allNoZero, allWritable, writeFields, inside, allInside, partsInside}
+use Rattle.fields.specs.Writing.{allNoZero, allWritable, writeFields, inside, allInside}
 use Rattle.plans.specs.Plans.{intsBytes, stringOk, stringsOk}
 
 pub never : (b : Bool) → b && false ≡ false
@@ -70,10 +70,6 @@ dt-is (negsuc n) e = let q : _≡_ {A = ℕ} 0 1 = cc in absurd (omega arith)
 -- ---- numbers
 
 module _ (s : List ℕ) where
-  pub ints-inside : (zs : List ℤ) → partsInside s (map num zs) ≡ true
-  ints-inside [] = refl
-  ints-inside (z ∷ zs) = ints-inside zs
-
   ints-writable : (zs : List ℤ) → allWritable (replicate (length zs) int) (map (mean s) (map num zs)) ≡ true
   ints-writable [] = refl
   ints-writable (z ∷ zs) = ints-writable zs

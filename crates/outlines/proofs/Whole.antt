@@ -24,7 +24,9 @@ use Rattle.item.specs.declared.Tag.the-variants.{Plain, Named, Other}
 use Rattle.item.specs.declared.Item.{Item}
 use Rattle.item.specs.declared.Item.the-variants as items
 use Rattle.item.specs.declared.Record.{Record}
-use Rattle.written.specs.Written.{writeContent, contentWritable, recordWritable, recordBytes}
+use Rattle.written.specs.Written.{writeContent, contentWritable, hasForm, recordBytes}
+use Rattle.written.specs.Unwritable.{recordWritable}
+use Rattle.written.proofs.Unwritable.{writable-is-form}
 use Rattle.plans.specs.Plans.{planOk}
 use Rattle.outlines.specs.Outlines.{kindOutline, otherOutline, outlineOk, outlineBytes, contentOk, contentBytes}
 use Rattle.outlines.specs.declared.Outline.{Outline}
@@ -32,9 +34,12 @@ use Rattle.outlines.proofs.Plain.{plain-ok, plain-bytes}
 use Rattle.outlines.proofs.Extensions.{other-ok, other-bytes}
 
 module _ (v : Version) (s : List ℕ) (r : Record) (c : Content Part) (e : c ≡ itemOf (r .item)) where
+  form-ok : contentOk v s c (r .input) (r .args) ≡ hasForm v s r
+  unfolding contentOk hasForm contentWritable
+  form-ok = rw e
+
   pub record-ok : contentOk v s c (r .input) (r .args) ≡ recordWritable v s r
-  unfolding contentOk recordWritable contentWritable
-  record-ok = rw e
+  record-ok = form-ok ∙ sym (writable-is-form v s r)
 
   pub record-bytes : contentBytes s c (r .input) (r .args) ≡ recordBytes s r
   unfolding contentBytes recordBytes writeContent

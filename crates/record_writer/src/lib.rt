@@ -4,14 +4,15 @@ ghost use mathlib.Core.Bool.{true, _&&_};
 ghost use mathlib.Core.List.{map};
 ghost use Prim.Native.Nat.{_≤_, _<_};
 ghost use lib.ListN.{length, take};
-ghost use Rattle.varint.specs.Written.{written, wrote, writtenIf, wroteIf};
+ghost use Rattle.varint.specs.Written.{written, wrote, writtenIf, wroteIf, wroteSaid};
 ghost use Rattle.packer.specs.Parts.{shown};
 ghost use Rattle.packer.specs.Texts.{isData};
 ghost use Rattle.fields.specs.Writing.{stringsBytes};
 ghost use Rattle.item.specs.Extensions.{idAt};
 ghost use Rattle.item.specs.Contents.{fromFields};
 ghost use Rattle.item.specs.declared.Tag.the-variants.{Named};
-ghost use Rattle.written.specs.Written.{exBytes, recordWritable, recordBytes};
+ghost use Rattle.written.specs.Written.{exBytes};
+ghost use Rattle.written.specs.Unwritable.{writeCall, targetAfter};
 ghost use Rattle.plans.specs.Plans.{
   intIf,
   rawIf,
@@ -331,10 +332,11 @@ fn write_named(
     }
 }
 
-// The record's bytes into the target, at a place, and nothing else: 11 where the record has no written form in the version, then 9 where the target is too short.
+// The record's bytes into the target, at a place, and nothing else: 11 where one of the eight tests of `recordWritable` holds, then 9
+// where the target is too short.
 pub fn write_record(version: Version, value: Record, s: &[u8], out: &mut [u8], at: usize) -> Wrote
-    ensures answer { λ r. ⌜ r ≡ wroteIf (recordWritable version (now (s .entry)) value) (now (out .entry)) at (recordBytes (now (s .entry)) value) ⌝ }
-    ensures target { λ r. ⌜ now (out .exit) ≡ writtenIf (recordWritable version (now (s .entry)) value) (now (out .entry)) at (recordBytes (now (s .entry)) value) ⌝ }
+    ensures answer { λ r. ⌜ wroteSaid r ≡ writeCall version (now (s .entry)) value (now (out .entry)) at ⌝ }
+    ensures target { λ r. ⌜ now (out .exit) ≡ targetAfter version (now (s .entry)) value (now (out .entry)) at ⌝ }
 {
     let item = value.item;
     let ten = value.input;

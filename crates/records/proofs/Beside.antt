@@ -12,7 +12,7 @@ use Rattle.fields.specs.Fields.{dt, Value, Reading, got, runsOut, refused, read
 use Rattle.fields.specs.Views.{zeros}
 use Rattle.shapes.specs.Shapes.{fieldsIn}
 use Rattle.shapes.specs.declared.Shape.{Shape}
-use Rattle.item.specs.Extensions.{Payload, shaped, whole, unknown, extensions, payloadAt, find}
+use Rattle.item.specs.Extensions.{Payload, shaped, whole, unknown, payloadAt, find}
 use Rattle.item.specs.Records.{Content, content, asContent, upTo, ofPayload, afterData, afterId, readEx, readRest}
 use Rattle.item.specs.Contents.{itemOf, ownFields, beside, noArgs, recordWith, recordOf, tidyTag}
 use Rattle.item.specs.declared.Kind.{Kind}
@@ -20,8 +20,8 @@ use Rattle.item.specs.declared.Kind.the-variants as kinds
 use Rattle.item.specs.declared.Tag.{Tag}
 use Rattle.item.specs.declared.Tag.the-variants.{Plain, Named}
 use Rattle.item.specs.declared.Item.{Item}
-use Rattle.item.specs.declared.Item.the-variants as records
 use Rattle.item.specs.declared.Record.{Record}
+use Rattle.item.proofs.Lengths.{lengths}
 use Rattle.records.specs.Views.{ownContent, own, itemIs, restCode, wholeOf, RestRead}
 use Rattle.records.specs.declared.ItemRead.{ItemRead}
 use Rattle.records.specs.declared.ItemRead.the-variants as items
@@ -114,41 +114,6 @@ whole-rest kind s at items.RunsOut y e h g = record { values = e ∙ g; tidy = r
 whole-rest kind s at (items.Refused r) y e h g = record { values = e ∙ g; tidy = refl }
 
 -- ---- a record without what stands beside it
-
-lengths : (i : Item) → length (itemOf i .values) ≡ length (ownFields (itemOf i .tag))
-unfolding extensions payloadAt
-lengths (records.PlayerDiff cid dx dy) = refl
-lengths records.Finish = refl
-lengths (records.TickSkip ticks) = refl
-lengths (records.PlayerNew cid x y) = refl
-lengths (records.PlayerOld cid) = refl
-lengths (records.InputDiff cid) = refl
-lengths (records.InputNew cid) = refl
-lengths (records.Message cid msg) = refl
-lengths (records.Join cid) = refl
-lengths (records.Drop cid reason) = refl
-lengths (records.ConsoleCommand cid mask cmd) = refl
-lengths (records.Antibot load) = refl
-lengths (records.AuthInit cid level identity) = refl
-lengths (records.AuthLogin cid level identity) = refl
-lengths (records.AuthLogout cid) = refl
-lengths (records.Ddnetver cid id version text) = refl
-lengths (records.DdnetverOld cid version) = refl
-lengths (records.Joinver6 cid) = refl
-lengths (records.Joinver7 cid) = refl
-lengths (records.PlayerFinish cid ticks) = refl
-lengths (records.PlayerName cid name) = refl
-lengths (records.PlayerReady cid) = refl
-lengths (records.PlayerRejoin cid) = refl
-lengths (records.PlayerSwap cid1 cid2) = refl
-lengths (records.PlayerTeam cid team) = refl
-lengths (records.TeamFinish team ticks) = refl
-lengths (records.TeamLoadFailure team) = refl
-lengths (records.TeamLoadSuccess team id save) = refl
-lengths (records.TeamPractice team practice) = refl
-lengths (records.TeamSaveFailure team) = refl
-lengths (records.TeamSaveSuccess team id save) = refl
-lengths (records.UnknownEx id load) = refl
 
 -- the record's own values, whatever follows them
 own-values : (i : Item) (vs : List (Value Part)) → ownContent (content (itemOf i .tag) (itemOf i .values ++ vs)) ≡ itemOf i

@@ -1,7 +1,7 @@
 -- The statements of specs/Laws.antt. Assumes nothing.
 use Prim.Native.Nat.{ℕ, _+_, _≤_, _<_}
 use mathlib.Core.Path.{_≡_, refl, sym, _∙_, ap}
-use mathlib.Core.Bool.{Bool, true, false}
+use mathlib.Core.Bool.{Bool, true, false, cond}
 use mathlib.Core.List.{List, _++_}
 use native.Mathlib.Omega.{arith}
 use lib.ListN.{length, drop, drop-of-length-le}
@@ -9,10 +9,14 @@ use lib.Dec.{leb}
 use lib.IntN.{ℤ}
 use borrow.Author.Tests.{leb-true, leb-false}
 use Rattle.num.proofs.Cases.{by-bool}
+use Rattle.refusal.specs.Said.{gives, refusing}
+use Rattle.refusal.specs.declared.Refusal.the-variants.{ShortTarget}
 use Rattle.varint.specs.Integers.{readFrom, readInt}
-use Rattle.varint.specs.Laws.{WrittenReads, ReadsWritten, Steady, Shorter, intOut, IntSteady}
+use Rattle.varint.specs.Written.{fitsAt, wrote, wroteSaid, writing}
+use Rattle.varint.specs.Laws.{WrittenReads, ReadsWritten, WritersSay, Steady, Shorter, intOut, IntSteady}
 use Rattle.varint.specs.declared.IntRead.{IntRead}
 use Rattle.varint.specs.declared.IntRead.the-variants.{Got, RunsOut}
+use Rattle.varint.specs.declared.Wrote.the-variants.{Past, Refused}
 use Rattle.varint.proofs.RoundTrip.{canonical-read}
 use Rattle.varint.proofs.Back.{read-canonical}
 use Rattle.varint.proofs.Prefix.{int-prefix}
@@ -22,6 +26,15 @@ written-reads = canonical-read
 
 pub reads-written : ReadsWritten
 reads-written = read-canonical
+
+fits-say : (fits : Bool) (next : ℕ) → wroteSaid (cond fits (Past next) (Refused ShortTarget)) ≡ cond fits (gives next 0) (refusing ShortTarget)
+fits-say true next = refl
+fits-say false next = refl
+
+pub writers-say : WritersSay
+unfolding wrote writing
+writers-say true xs at bs = fits-say (fitsAt xs at bs) (at + length bs)
+writers-say false xs at bs = refl
 
 -- one half follows from the other
 pub shorter : {A : Type 0} (out : A → Bool) (read : List ℕ → ℕ → A) → Steady out read → Shorter out read

@@ -8,7 +8,7 @@ use lib.IntN.{ℤ}
 use mir.Syntax.{w32}
 use mir.Val.{SFits}
 use Rattle.varint.specs.Integers.{readInt}
-use Rattle.varint.specs.Written.{canonical}
+use Rattle.varint.specs.Written.{canonical, wroteIf, wroteSaid, writing}
 use Rattle.varint.specs.declared.Remark.the-variants.{None}
 use Rattle.varint.specs.declared.IntRead.{IntRead}
 use Rattle.varint.specs.declared.IntRead.the-variants.{Got, RunsOut}
@@ -28,6 +28,10 @@ abbrev pub ReadsWritten : Type 0
 ReadsWritten =
     (s : List ℕ) (at next : ℕ) (z : ℤ) → Bytes s → readInt s at ≡ Got z next None
     → (take (next - at) (drop at s) ≡ canonical z) × (next ≡ at + length (canonical z))
+
+-- what every writer answers, with the numbers of the refusals; `wrote` is `wroteIf true`
+abbrev pub WritersSay : Type 0
+WritersSay = (ok : Bool) (xs : List ℕ) (at : ℕ) (bs : List ℕ) → wroteSaid (wroteIf ok xs at bs) ≡ writing ok xs at bs
 
 -- ---- what follows a reading; `out` tells that its bytes run out
 

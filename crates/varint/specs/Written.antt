@@ -7,6 +7,7 @@ use lib.ListN.{length, take, drop}
 use lib.Dec.{leb, eqb}
 use lib.IntN.{ℤ, pos, negsuc}
 use lib.Signed.{mag}
+use Rattle.refusal.specs.Said.{Said, gives, refusing}
 use Rattle.refusal.specs.declared.Refusal.the-variants.{ShortTarget, Unwritable}
 use Rattle.varint.specs.declared.Wrote.{Wrote}
 use Rattle.varint.specs.declared.Wrote.the-variants.{Past, Refused}
@@ -53,3 +54,14 @@ writtenIf ok xs at bs = cond ok (written xs at bs) xs
 
 abbrev pub wroteIf : Bool → List ℕ → ℕ → List ℕ → Wrote
 wroteIf ok xs at bs = cond ok (wrote xs at bs) (Refused Unwritable)
+
+-- ---- what writing says
+
+-- of no bytes used: the place past the bytes written
+abbrev pub wroteSaid : Wrote → Said ℕ
+wroteSaid (Past next) = gives next 0
+wroteSaid (Refused r) = refusing r
+
+-- 11 where there is no written form; 9 where it doesn't fit; else the place past it
+unfoldable pub writing : Bool → List ℕ → ℕ → List ℕ → Said ℕ
+writing ok xs at bs = cond ok (cond (fitsAt xs at bs) (gives (at + length bs) 0) (refusing ShortTarget)) (refusing Unwritable)

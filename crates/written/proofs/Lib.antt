@@ -7,5 +7,6 @@ pub mod Rewritten
 pub mod Steady
 pub mod Theorems
 pub mod Typed
+pub mod Unwritable
 pub mod Whole
 pub mod Windows

@@ -21,7 +21,8 @@ use Rattle.item.specs.declared.Kind.the-variants as kinds
 use Rattle.item.specs.declared.Tag.{Tag}
 use Rattle.item.specs.declared.Tag.the-variants.{Plain, Named, Other}
 use Rattle.item.specs.declared.Record.{Record}
-use Rattle.written.specs.Written.{allFields, writeContent, contentWritable, recordWritable, recordBytes}
+use Rattle.written.specs.Written.{allFields, writeContent, contentWritable, hasForm, recordBytes}
+use Rattle.written.specs.Unwritable.{recordWritable}
 
 abbrev pub meant : List ℕ → Reading (Content Part) → Reading (Content (List ℕ))
 meant s (got c next) = got (meaning s c) next
@@ -80,6 +81,11 @@ TypedContent Other vs = AllTyped (uuid ∷ blob ∷ []) vs
 
 abbrev pub TypedRecord : Record → Type 0
 TypedRecord r = TypedContent (recordOf r .tag) (recordOf r .values)
+
+-- ---- the eight tests say of every record whether the structure of records gives it a written form
+
+abbrev pub WritableIsForm : Type 0
+WritableIsForm = (v : Version) (s : List ℕ) (r : Record) → recordWritable v s r ≡ hasForm v s r
 
 -- ---- written and read again in the same version: the same record, exactly the bytes written used, no remark, whatever follows
 

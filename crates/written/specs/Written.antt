@@ -73,7 +73,7 @@ tagBytes Other vs = exBytes (firstBytes vs) (secondBytes vs)
 unfoldable pub writeContent : Content (List ℕ) → List ℕ
 writeContent c = tagBytes (c .tag) (c .values)
 
--- ---- which have one: all others are refused 11
+-- ---- which have one, by the structure of records; specs/Unwritable.antt has the tests for the others
 
 abbrev pub hasEx : Version → Bool
 hasEx V1 = false
@@ -129,8 +129,8 @@ tagCount (Named k) xs = 0
 tagCount Other xs = 0
 
 -- at most 16 arguments, every part inside the bytes lent, and a written form
-unfoldable pub recordWritable : Version → List ℕ → Record → Bool
-recordWritable v s r =
+unfoldable pub hasForm : Version → List ℕ → Record → Bool
+hasForm v s r =
     leb (tagCount (recordOf r .tag) (r .args)) 16
     && (partsInside s (recordOf r .values) && contentWritable v (meaning s (recordOf r)))
 

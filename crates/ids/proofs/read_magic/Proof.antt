@@ -7,16 +7,16 @@ use native.Mathlib.Omega.{arith}
 use lib.ListN.{length, take}
 use borrow.Author.Needs.{needs}
 use borrow.Author.Tests.{lt-ltb, le-ltb}
+use Rattle.refusal.specs.Said.{gives, refusing}
 use Rattle.refusal.specs.declared.Refusal.the-variants.{WrongMagic}
 use Rattle.item.specs.Extensions.{same}
 use Rattle.item.specs.Magic.{readMagic}
-use Rattle.item.specs.declared.MagicRead.the-variants.{Used, Refused}
 use Rattle.ids.specs.Table.{rowAt}
 use Rattle.ids.proofs.Table.{row-magic}
 use Rattle.ids.proofs.read_magic.Statement.{statement}
 use Rattle.ids.proofs.read_magic.Tie as tie
 
-compared : (s : List ℕ) (t : Bool) → 16 ≤ length s → same (take 16 s) (rowAt 20) ≡ t → cond t (Used 16) (Refused WrongMagic) ≡ readMagic s
+compared : (s : List ℕ) (t : Bool) → 16 ≤ length s → same (take 16 s) (rowAt 20) ≡ t → cond t (gives tt 16) (refusing WrongMagic) ≡ readMagic s
 unfolding readMagic
 compared s t h e = rw (le-ltb (length s) 16 h, ap (same (take 16 s)) (sym row-magic) ∙ e)
 

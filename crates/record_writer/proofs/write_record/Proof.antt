@@ -1,17 +1,30 @@
 -- `record_writer::write_record` meets its contract: the record is taken apart, and written by its outline or as an extension.
 -- Assumes nothing.
-use Prim.Native.Nat.{_<_}
+use Prim.Native.Nat.{ℕ, _<_}
 use mathlib.Core.Path.{_≡_, sym, _∙_, ap}
+use mathlib.Core.List.{List}
 use native.Mathlib.Omega.{arith}
 use borrow.Author.Needs.{needs, sfits-of}
 use lib.ListN.{length, length-map}
 use mir.Syntax.{w32}
 use mir.Val.{SFits, toZ, ofZ}
+use Rattle.varint.specs.Written.{wroteIf, wroteSaid}
+use Rattle.varint.specs.declared.Wrote.{Wrote}
+use Rattle.varint.proofs.Theorems.{writers-say}
 use Rattle.item.specs.Contents.{itemOf, fromFields}
+use Rattle.item.specs.declared.Version.{Version}
+use Rattle.item.specs.declared.Record.{Record}
 use Rattle.item.specs.declared.Tag.the-variants.{Plain, Named, Other}
+use Rattle.written.specs.Written.{recordBytes}
+use Rattle.written.specs.Unwritable.{recordWritable, writeCall}
 use Rattle.outlines.proofs.Whole.{record-ok, record-bytes, plain-writes, other-writes, named-few}
 use Rattle.record_writer.proofs.write_record.Statement.{statement}
 use Rattle.record_writer.proofs.write_record.Tie as tie
+
+-- the answer, with the numbers of the refusals
+said : (v : Version) (s : List ℕ) (r : Record) (xs : List ℕ) (at : ℕ) (w : Wrote) → w ≡ wroteIf (recordWritable v s r) xs at (recordBytes s r)
+    → wroteSaid w ≡ writeCall v s r xs at
+said v s r xs at w e = ap wroteSaid e ∙ writers-say (recordWritable v s r) xs at (recordBytes s r)
 
 write-named-requires : tie.Need-write-named-requires
 write-named-requires c κs =
@@ -34,7 +47,7 @@ returns c =
     let h : length (d .args .value .input) ≡ 10 = sym (length-map (d .args .value .input) _) ∙ d .good .1 .0 .1 .1 .1 .0 .1 .0 .1 in
     let p = plain-writes (d .args .version) (d .args .s .now) (d .args .value) f (d .args .out .now) (d .args .at) (g .0 .0) e a b h in
     let w = rw (o .ensures, x) at (c .before .before .write-outline .ensures) in
-    (w .0 ∙ p .0, w .1 ∙ p .1)
+    (said (d .args .version) (d .args .s .now) (d .args .value) (d .args .out .now) (d .args .at) _ (w .0 ∙ p .0), w .1 ∙ p .1)
 
 returns-2 : tie.Need-returns-2
 returns-2 c =
@@ -44,8 +57,10 @@ returns-2 c =
     let r = d .args .value in
     let i = fromFields (Named (g .0 .0)) (t .result .fields) in
     let e : i ≡ itemOf (r .item) = rw (g .1) at (t .ensures .values) in
-    rw (← record-ok (d .args .version) (d .args .s .now) r i e, ← record-bytes (d .args .version) (d .args .s .now) r i e)
-    (c .before .before .write-named .ensures)
+    let w =
+    rw (record-ok (d .args .version) (d .args .s .now) r i e, record-bytes (d .args .version) (d .args .s .now) r i e)
+    at (c .before .before .write-named .ensures) in
+    (said (d .args .version) (d .args .s .now) r (d .args .out .now) (d .args .at) _ (w .0), w .1)
 
 returns-3 : tie.Need-returns-3
 returns-3 c =
@@ -57,7 +72,7 @@ returns-3 c =
     let e = rw (g .1) at (t .ensures .values) in
     let p = other-writes (d .args .version) (d .args .s .now) (d .args .value) f (d .args .out .now) (d .args .at) e in
     let w = rw (o .ensures, c .before .before .before .before .before .find-id .ensures) at (c .before .before .write-outline2 .ensures) in
-    (w .0 ∙ p .0, w .1 ∙ p .1)
+    (said (d .args .version) (d .args .s .now) (d .args .value) (d .args .out .now) (d .args .at) _ (w .0 ∙ p .0), w .1 ∙ p .1)
 
 pub write-record-spec : {M : Type 1} → statement M
 write-record-spec =

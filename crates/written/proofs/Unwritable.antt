@@ -1,0 +1,173 @@
+-- The eight tests of specs/Unwritable.antt, and the structure of records: a record has a written form by both or by neither. Assumes
+-- nothing.
+use Prim.Native.Nat.{ℕ, zero, suc, _≤_}
+use mathlib.Core.Path.{_≡_, refl, sym, _∙_, ap}
+use mathlib.Core.Bool.{Bool, true, false, not, _&&_, _||_, and-true, or-false, and-assoc, and-comm, and-self, and-self-left, Bool·not-not}
+use mathlib.Core.List.{List, [], _∷_, map}
+use native.Mathlib.Omega.{arith}
+use native.Mathlib.Nat.{min-le-left}
+use lib.ListN.{length, take, replicate, length-map, length-take}
+use lib.Dec.{leb, eqb}
+use lib.IntN.{ℤ}
+use lib.Signed.{nonNeg}
+use borrow.Author.Tests.{le-leb, leb-true}
+use Rattle.packer.specs.Parts.{shown}
+use Rattle.packer.specs.Texts.{noZero, isData}
+use Rattle.packer.specs.declared.Part.{Part}
+use Rattle.fields.specs.Fields.{Field, int, Value, num, mean}
+use Rattle.fields.specs.Views.{tenFields}
+use Rattle.fields.specs.Writing.{allNoZero, allWritable, inside, allInside, partsInside}
+use Rattle.fields.specs.declared.Args.{Args}
+use Rattle.shapes.specs.Shapes.{idPart}
+use Rattle.item.specs.Extensions.{count, extensions, payloadAt, find}
+use Rattle.item.specs.Contents.{itemOf, recordWith}
+use Rattle.item.specs.declared.Version.{Version}
+use Rattle.item.specs.declared.Item.{Item}
+use Rattle.item.specs.declared.Item.the-variants as items
+use Rattle.item.specs.declared.Record.{Record}
+use Rattle.written.specs.Written.{payloadBytes, hasEx, contentWritable, hasForm}
+use Rattle.written.specs.Unwritable.{someOf, isLargeDt, holdsZero, isLongData, valuesOf, recordWritable}
+
+-- ---- tests put together in another order
+
+not-or : (a b : Bool) → not (a || b) ≡ (not a && not b)
+not-or true b = refl
+not-or false b = refl
+
+and-swap : (a b c : Bool) → (a && (b && c)) ≡ (b && (a && c))
+and-swap true b c = refl
+and-swap false true c = refl
+and-swap false false c = refl
+
+ruleset sorted = (not-or, Bool·not-not, or-false, and-true, and-assoc, and-comm, and-swap, and-self, and-self-left)
+
+one : (b : Bool) → not (not b || false || false || false || false || false || false || false) ≡ (b && true)
+one b = simp sorted
+
+message : (i d : Bool) → not (not d || false || false || false || false || not (i && true)) ≡ ((i && true) && (d && true))
+message i d = simp sorted
+
+drop : (i z : Bool) → not (not z || false || false || false || false || false || not (i && true)) ≡ ((i && true) && (z && true))
+drop i z = simp sorted
+
+-- few arguments make few strings
+command-few : (i j z zs : Bool) → not (not z || (not zs || false) || false || false || false || false || not (i && (j && true)))
+    ≡ ((i && (j && true)) && (z && (zs && true)))
+command-few i j z zs = simp sorted
+
+command-many : (a b c : Bool) → not (a || true || false || false || false || b) ≡ false
+command-many true b c = refl
+command-many false b c = refl
+
+command : (n m i j z zs : Bool) → (n ≡ true → m ≡ true)
+    → not (not z || (not zs || false) || not n || false || false || false || not (i && (j && true)))
+    ≡ (n && ((i && (j && true)) && (z && ((m && zs) && true))))
+command true m i j z zs h = rw (h refl) (command-few i j z zs)
+command false m i j z zs h = command-many (not z || (not zs || false)) (not (i && (j && true))) false
+
+-- extensions: version h, payload d
+ints : (h d : Bool) → not (not d || not h || false || false) ≡ (h && d)
+ints h d = simp sorted
+
+text : (i h z d : Bool) → not (not z || false || false || not d || not h || false || not (i && true)) ≡ ((i && true) && (h && ((z && true) && d)))
+text i h z d = simp sorted
+
+id-text : (u i h z d : Bool) → not (not z || false || false || not d || not h || false || not (u && (i && true)))
+    ≡ ((u && (i && true)) && (h && ((z && true) && d)))
+id-text u i h z d = simp sorted
+
+all-data : (i h d : Bool) → not (not d || false || not d || not h || false || not (i && true)) ≡ ((i && true) && (h && d))
+all-data i h d = simp sorted
+
+other : (u i h e d : Bool) → not (not d || false || false || not h || not e || not (u && (i && true))) ≡ ((u && (i && true)) && (h && (e && d)))
+other u i h e d = simp sorted
+
+-- ---- ten numbers
+
+none-of : (test : Field → Value (List ℕ) → Bool) → ((v : Value (List ℕ)) → test int v ≡ false) → (n : ℕ) (ms : List (Value (List ℕ)))
+    → someOf test (replicate n int) ms ≡ false
+none-of test never zero ms = refl
+none-of test never (suc n) [] = refl
+none-of test never (suc n) (m ∷ ms) = rw (never m) (none-of test never n ms)
+
+all-of : (n : ℕ) (ms : List (Value (List ℕ))) → allWritable (replicate n int) ms ≡ true
+all-of zero ms = refl
+all-of (suc n) [] = refl
+all-of (suc n) (m ∷ ms) = all-of n ms
+
+pub ints-inside : (s : List ℕ) (zs : List ℤ) → partsInside s (map num zs) ≡ true
+ints-inside s [] = refl
+ints-inside s (z ∷ zs) = ints-inside s zs
+
+-- ---- arguments
+
+pub few-args : (n : ℕ) {A : Type 0} {B : Type 0} (f : A → B) (xs : List A) → leb n 16 ≡ true → leb (length (map f (take n xs))) 16 ≡ true
+few-args n f xs e =
+    let l = length-map (take n xs) f ∙ length-take n xs in
+    le-leb (length (map f (take n xs))) 16 (omega (arith, l, min-le-left n (length xs), leb-true n 16 e))
+
+-- ---- every record
+
+module _ (v : Version) (s : List ℕ) (ten : List ℤ) (xs : Args) where
+  abbrev Same : Item → Type 0
+  Same i = recordWritable v s (recordWith i ten xs) ≡ hasForm v s (recordWith i ten xs)
+
+  abbrev loadIs : ℕ → Item → Bool
+  loadIs k i = isData (payloadBytes (payloadAt k) (valuesOf s (recordWith i ten xs)))
+
+  abbrev within : Part → Bool
+  within p = inside s p
+
+  abbrev clean : Part → Bool
+  clean p = noZero (shown s p)
+
+  input : (cid : ℤ) → (not (someOf isLargeDt tenFields (map (mean s) (map num ten)) || someOf holdsZero tenFields (map (mean s) (map num ten)) || false || (someOf isLongData tenFields (map (mean s) (map num ten)) || false) || false || false || not (partsInside s (map num ten))))
+      ≡ (partsInside s (map num ten) && allWritable tenFields (map (mean s) (map num ten)))
+  input cid =
+      let ms = map (mean s) (map num ten) in
+      rw (none-of isLargeDt (λ w. refl) 10 ms, none-of holdsZero (λ w. refl) 10 ms, none-of isLongData (λ w. refl) 10 ms, all-of 10 ms, ints-inside s ten)
+
+  form : (i : Item) → Same i
+  unfolding recordWritable hasForm contentWritable extensions payloadAt
+  form (items.PlayerDiff cid dx dy) = one (nonNeg cid)
+  form items.Finish = refl
+  form (items.TickSkip ticks) = one (leb ticks 2147483647)
+  form (items.PlayerNew cid x y) = refl
+  form (items.PlayerOld cid) = refl
+  form (items.InputDiff cid) = input cid
+  form (items.InputNew cid) = input cid
+  form (items.Message cid msg) = message (within msg) (isData (shown s msg))
+  form (items.Join cid) = refl
+  form (items.Drop cid reason) = drop (within reason) (clean reason)
+  form (items.ConsoleCommand cid flags cmd) =
+      let ps = take (xs .count) (xs .parts) in
+      command (leb (xs .count) 16) (leb (length (map (shown s) ps)) 16) (within cmd) (allInside s ps) (clean cmd) (allNoZero (map (shown s) ps))
+      (few-args (xs .count) (shown s) (xs .parts))
+  form (items.Antibot load) = all-data (within load) (hasEx v) (isData (shown s load))
+  form (items.AuthInit cid level identity) = text (within identity) (hasEx v) (clean identity) (loadIs 1 (items.AuthInit cid level identity))
+  form (items.AuthLogin cid level identity) = text (within identity) (hasEx v) (clean identity) (loadIs 2 (items.AuthLogin cid level identity))
+  form (items.AuthLogout cid) = ints (hasEx v) (loadIs 3 (items.AuthLogout cid))
+  form (items.Ddnetver cid id version name) =
+      id-text (within (idPart id)) (within name) (hasEx v) (clean name) (loadIs 4 (items.Ddnetver cid id version name))
+  form (items.DdnetverOld cid version) = ints (hasEx v) (loadIs 5 (items.DdnetverOld cid version))
+  form (items.Joinver6 cid) = ints (hasEx v) (loadIs 6 (items.Joinver6 cid))
+  form (items.Joinver7 cid) = ints (hasEx v) (loadIs 7 (items.Joinver7 cid))
+  form (items.PlayerFinish cid time) = ints (hasEx v) (loadIs 8 (items.PlayerFinish cid time))
+  form (items.PlayerName cid name) = text (within name) (hasEx v) (clean name) (loadIs 9 (items.PlayerName cid name))
+  form (items.PlayerReady cid) = ints (hasEx v) (loadIs 10 (items.PlayerReady cid))
+  form (items.PlayerRejoin cid) = ints (hasEx v) (loadIs 11 (items.PlayerRejoin cid))
+  form (items.PlayerSwap cid1 cid2) = ints (hasEx v) (loadIs 12 (items.PlayerSwap cid1 cid2))
+  form (items.PlayerTeam cid team) = ints (hasEx v) (loadIs 13 (items.PlayerTeam cid team))
+  form (items.TeamFinish team time) = ints (hasEx v) (loadIs 14 (items.TeamFinish team time))
+  form (items.TeamLoadFailure team) = ints (hasEx v) (loadIs 15 (items.TeamLoadFailure team))
+  form (items.TeamLoadSuccess team id save) =
+      id-text (within (idPart id)) (within save) (hasEx v) (clean save) (loadIs 16 (items.TeamLoadSuccess team id save))
+  form (items.TeamPractice team practice) = ints (hasEx v) (loadIs 17 (items.TeamPractice team practice))
+  form (items.TeamSaveFailure team) = ints (hasEx v) (loadIs 18 (items.TeamSaveFailure team))
+  form (items.TeamSaveSuccess team id save) =
+      id-text (within (idPart id)) (within save) (hasEx v) (clean save) (loadIs 19 (items.TeamSaveSuccess team id save))
+  form (items.UnknownEx id load) =
+      other (within (idPart id)) (within load) (hasEx v) (eqb (find (shown s (idPart id))) count) (isData (shown s load))
+
+pub writable-is-form : (v : Version) (s : List ℕ) (r : Record) → recordWritable v s r ≡ hasForm v s r
+writable-is-form v s r = form v s (r .input) (r .args) (r .item)

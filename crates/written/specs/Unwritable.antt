@@ -1,0 +1,173 @@
+-- The records that have no written form and are refused 11: those for which one of eight tests holds. docs/FORMAT.md, "The writer".
+use Prim.Native.Nat.{ℕ}
+use mathlib.Core.Bool.{Bool, true, false, not, _&&_, _||_}
+use mathlib.Core.List.{List, [], _∷_, map}
+use lib.Dec.{leb, eqb}
+use lib.Signed.{nonNeg}
+use Rattle.refusal.specs.Said.{Said}
+use Rattle.varint.specs.Written.{writtenIf, writing}
+use Rattle.packer.specs.Texts.{noZero, isData}
+use Rattle.fields.specs.Fields.{Field, int, dt, mask, str, uuid, blob, args, Value, num, bytes, strings, mean}
+use Rattle.fields.specs.Writing.{allNoZero, smallDt, partsInside}
+use Rattle.item.specs.Extensions.{count, payloadAt, find}
+use Rattle.item.specs.Records.{restOf}
+use Rattle.item.specs.Contents.{ownPayload, recordOf}
+use Rattle.item.specs.declared.Version.{Version}
+use Rattle.item.specs.declared.Kind.{Kind}
+use Rattle.item.specs.declared.Kind.the-variants as kinds
+use Rattle.item.specs.declared.Tag.{Tag}
+use Rattle.item.specs.declared.Tag.the-variants.{Plain, Named, Other}
+use Rattle.item.specs.declared.Record.{Record}
+use Rattle.written.specs.Written.{allFields, firstBytes, payloadBytes, hasEx, tagCount, recordBytes}
+
+-- ---- the fields of a record, with their values
+
+-- those whose values stand beside the record too
+abbrev pub tagFields : Tag → List Field
+tagFields (Plain k) = allFields (restOf k)
+tagFields (Named k) = ownPayload (payloadAt k)
+tagFields Other = uuid ∷ blob ∷ []
+
+abbrev pub someOf : (Field → Value (List ℕ) → Bool) → List Field → List (Value (List ℕ)) → Bool
+someOf test [] vs = false
+someOf test (f ∷ fs) [] = false
+someOf test (f ∷ fs) (v ∷ vs) = test f v || someOf test fs vs
+
+-- the values of a record, with the bytes that its parts show
+abbrev pub valuesOf : List ℕ → Record → List (Value (List ℕ))
+valuesOf s r = map (mean s) (recordOf r .values)
+
+abbrev pub someField : (Field → Value (List ℕ) → Bool) → List ℕ → Record → Bool
+someField test s r = someOf test (tagFields (recordOf r .tag)) (valuesOf s r)
+
+-- ---- 1: a negative PlayerDiff client
+
+abbrev pub negativeDiff : Kind → Bool
+negativeDiff (kinds.PlayerDiff c) = not (nonNeg c)
+negativeDiff kinds.Finish = false
+negativeDiff kinds.TickSkip = false
+negativeDiff (kinds.PlayerNew c) = false
+negativeDiff (kinds.PlayerOld c) = false
+negativeDiff kinds.InputDiff = false
+negativeDiff kinds.InputNew = false
+negativeDiff kinds.Message = false
+negativeDiff kinds.Join = false
+negativeDiff kinds.Drop = false
+negativeDiff kinds.ConsoleCommand = false
+negativeDiff kinds.Ex = false
+
+abbrev pub negativeTag : Tag → Bool
+negativeTag (Plain k) = negativeDiff k
+negativeTag (Named k) = false
+negativeTag Other = false
+
+abbrev pub negativeClient : Record → Bool
+negativeClient r = negativeTag (recordOf r .tag)
+
+-- ---- 2: dt above 2147483647
+
+abbrev pub isLargeDt : Field → Value (List ℕ) → Bool
+isLargeDt int v = false
+isLargeDt dt (num z) = not (smallDt z)
+isLargeDt dt (bytes b) = false
+isLargeDt dt (strings bs) = false
+isLargeDt mask v = false
+isLargeDt str v = false
+isLargeDt uuid v = false
+isLargeDt blob v = false
+isLargeDt args v = false
+
+abbrev pub largeDt : List ℕ → Record → Bool
+largeDt s r = someField isLargeDt s r
+
+-- ---- 3: a string holding 00
+
+abbrev pub holdsZero : Field → Value (List ℕ) → Bool
+holdsZero int v = false
+holdsZero dt v = false
+holdsZero mask v = false
+holdsZero str (num z) = false
+holdsZero str (bytes b) = not (noZero b)
+holdsZero str (strings bs) = false
+holdsZero uuid v = false
+holdsZero blob v = false
+holdsZero args (num z) = false
+holdsZero args (bytes b) = false
+holdsZero args (strings bs) = not (allNoZero bs)
+
+abbrev pub zeroInString : List ℕ → Record → Bool
+zeroInString s r = someField holdsZero s r
+
+-- ---- 4: more than 16 arguments
+
+abbrev pub manyArguments : Record → Bool
+manyArguments r = not (leb (tagCount (recordOf r .tag) (r .args)) 16)
+
+-- ---- 5: data above 2147483647 bytes, an extension's payload too
+
+abbrev pub isLongData : Field → Value (List ℕ) → Bool
+isLongData int v = false
+isLongData dt v = false
+isLongData mask v = false
+isLongData str v = false
+isLongData uuid v = false
+isLongData blob (num z) = false
+isLongData blob (bytes b) = not (isData b)
+isLongData blob (strings bs) = false
+isLongData args v = false
+
+-- the payload of UnknownEx is its data
+abbrev pub longPayload : Tag → List (Value (List ℕ)) → Bool
+longPayload (Plain k) ms = false
+longPayload (Named k) ms = not (isData (payloadBytes (payloadAt k) ms))
+longPayload Other ms = false
+
+abbrev pub longData : List ℕ → Record → Bool
+longData s r = someField isLongData s r || longPayload (recordOf r .tag) (valuesOf s r)
+
+-- ---- 6: an extension in version 1
+
+abbrev pub isExtension : Tag → Bool
+isExtension (Plain k) = false
+isExtension (Named k) = true
+isExtension Other = true
+
+abbrev pub extensionInVersion1 : Version → Record → Bool
+extensionInVersion1 v r = isExtension (recordOf r .tag) && not (hasEx v)
+
+-- ---- 7: UnknownEx with one of the 20 identifiers
+
+abbrev pub isKnownId : Tag → List (Value (List ℕ)) → Bool
+isKnownId (Plain k) ms = false
+isKnownId (Named k) ms = false
+isKnownId Other ms = not (eqb (find (firstBytes ms)) count)
+
+abbrev pub knownIdentifier : List ℕ → Record → Bool
+knownIdentifier s r = isKnownId (recordOf r .tag) (valuesOf s r)
+
+-- ---- 8: a part reaching outside the bytes lent with the record
+
+abbrev pub partOutside : List ℕ → Record → Bool
+partOutside s r = not (partsInside s (recordOf r .values))
+
+-- ---- a record has a written form exactly if none of them holds
+
+unfoldable pub recordWritable : Version → List ℕ → Record → Bool
+recordWritable v s r =
+    not
+    (negativeClient r
+    || largeDt s r
+    || zeroInString s r
+    || manyArguments r
+    || longData s r
+    || extensionInVersion1 v r
+    || knownIdentifier s r
+    || partOutside s r)
+
+-- ---- the writer's call: the place past the record's bytes, 11 or 9; and the target after it
+
+abbrev pub writeCall : Version → List ℕ → Record → List ℕ → ℕ → Said ℕ
+writeCall v s r xs at = writing (recordWritable v s r) xs at (recordBytes s r)
+
+abbrev pub targetAfter : Version → List ℕ → Record → List ℕ → ℕ → List ℕ
+targetAfter v s r xs at = writtenIf (recordWritable v s r) xs at (recordBytes s r)
