@@ -89,10 +89,10 @@ module _ (zs : List ℤ) (ps : List Part) where
   ofTag (Named k) = getD named k items.Finish
   ofTag Other = items.UnknownEx (p .at) q
 
-abbrev itemBy : Content Part → Item
+abbrev pub itemBy : Content Part → Item
 itemBy c = ofTag (numbers (c .values)) (parts (c .values)) (c .tag)
 
-by-content : (i : Item) (ten : List ℤ) (xs : Args) → itemBy (withBeside (itemOf i) ten xs) ≡ i
+pub by-content : (i : Item) (ten : List ℤ) (xs : Args) → itemBy (withBeside (itemOf i) ten xs) ≡ i
 unfolding numbers
 by-content (items.PlayerDiff cid dx dy) ten xs = refl
 by-content items.Finish ten xs = refl

@@ -1,11 +1,11 @@
 -- A record with what stands beside it is known by its content. Assumes nothing.
 use mathlib.Core.Path.{_≡_, refl, sym, ap, _∙_}
-use mathlib.Core.List.{List, [], _∷_, _++_, map, append-cancel-left}
+use mathlib.Core.List.{List, [], _∷_, map, append-cancel-left}
 use lib.ListN.{take}
 use lib.IntN.{ℤ}
 use Rattle.packer.specs.declared.Part.{Part}
 use Rattle.fields.specs.Fields.{Value, num}
-use Rattle.fields.specs.Views.{zeros, argsWith, numbers}
+use Rattle.fields.specs.Views.{zeros, numbers}
 use Rattle.fields.specs.declared.Args.{Args}
 use Rattle.item.specs.Records.{Content}
 use Rattle.item.specs.Contents.{itemOf, besideKind, beside, withBeside, noArgs, recordWith, tidyKind, tidyTag}

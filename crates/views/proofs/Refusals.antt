@@ -27,11 +27,11 @@ use Rattle.refusal.specs.declared.Refusal.the-variants.{
   Closed,
   NotLast,
 }
-use Rattle.item.specs.Said.{Said, refusing}
+use Rattle.item.specs.Said.{refusing}
 use Rattle.views.specs.Shown.{RefusalsShown}
 
 -- the refusal of a number and values
-abbrev refusalBy : ℕ → List ℤ → Refusal
+abbrev pub refusalBy : ℕ → List ℤ → Refusal
 refusalBy n vs =
     getD
     (WrongMagic
@@ -56,7 +56,7 @@ refusalBy n vs =
     (n - 1)
     NotLast
 
-by-number : (r : Refusal) → refusalBy (numberOf r) (valuesOf r) ≡ r
+pub by-number : (r : Refusal) → refusalBy (numberOf r) (valuesOf r) ≡ r
 by-number WrongMagic = refl
 by-number UnknownVersion = refl
 by-number UnexpectedEnd = refl

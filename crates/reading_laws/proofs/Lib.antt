@@ -1,0 +1,5 @@
+pub mod UnknownKinds
+pub mod RefusedRests
+pub mod CausesOfActs
+pub mod Answered
+pub mod Theorems
