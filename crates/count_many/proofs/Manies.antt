@@ -10,10 +10,11 @@ use lib.Seq.{drop-drop, take-all}
 use Rattle.item.specs.declared.Version.{Version}
 use Rattle.state.specs.State.{emptyReader}
 use Rattle.state.specs.declared.Reader.{Reader}
-use Rattle.many.specs.Many.{Halt, isFull, wantsMore, finishes, isRefused, Run, calls, room, haltOf, Tells}
+use Rattle.many.specs.Many.{Halt, isFull, wantsMore, finishes, isRefused, Run, calls, manyCalls, room, haltOf, Tells}
 use Rattle.many.specs.declared.Stop.{Stop}
 use Rattle.many.specs.declared.Stop.the-variants as stops
 use Rattle.many.specs.declared.ManyAnswer.{ManyAnswer}
+use Rattle.many.proofs.Edges.{with-room}
 use Rattle.count.specs.Count.{most, eventsIn}
 use Rattle.count.proofs.Runs.{events, no-calls, joined, splits, few, run-within}
 
@@ -45,7 +46,7 @@ module _ (v : Version) (body : List ℕ) (r : Reader) (at count turns : ℕ) (f 
       (l : length rows ≡ 32768)
       (m : length tens ≡ 81920)
       (a : ManyAnswer)
-      (told : Tells (calls (room rows tens) r window true) rows tens a rows₁ tens₁) where
+      (told : Tells (manyCalls (room rows tens) r window true) rows tens a rows₁ tens₁) where
     abbrev run : Run
     run = calls 4096 r (drop at body) true
 
@@ -58,7 +59,7 @@ module _ (v : Version) (body : List ℕ) (r : Reader) (at count turns : ℕ) (f 
     fits = rw (l, m)
 
     t : Tells run rows tens a rows₁ tens₁
-    t = rw (fits, whole) at told
+    t = rw (fits, whole, with-room 4096 r (drop at body) true (omega arith)) at told
 
     -- the rest is this call and what follows it
     rest :

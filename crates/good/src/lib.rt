@@ -18,6 +18,8 @@ ghost use Rattle.state.specs.State.{
   goodKind,
   goodPending,
   goodScalars,
+  readerWith,
+  goodReader,
 };
 ghost use Rattle.good.specs.Blocks.{from, noMark};
 use item::Kind;
@@ -212,4 +214,18 @@ pub fn good_entries(entries: Entries) -> bool
         &entries.held,
         &entries.inputs,
     )
+}
+
+// The test of a reader whose entries are lent.
+pub fn good_state<'a>(
+    s: Scalars,
+    marks: &'a [u8; 128],
+    xs: &'a [i32; 128],
+    ys: &'a [i32; 128],
+    held: &'a [u8; 128],
+    inputs: &'a [i32; 1280],
+) -> bool
+    ensures { λ r. ⌜ r ≡ goodReader (readerWith s (entriesWith (now (marks .entry)) (now (xs .entry)) (now (ys .entry)) (now (held .entry)) (now (inputs .entry)))) ⌝ }
+{
+    both(good_scalars(s), good_lent(marks, xs, ys, held, inputs))
 }

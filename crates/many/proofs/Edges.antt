@@ -1,16 +1,21 @@
--- Many calls where there is no room, and on a bad reader. Assumes nothing.
-use Prim.Native.Nat.{ℕ, suc, _-_}
-use mathlib.Core.Path.{_≡_, refl}
-use mathlib.Core.Bool.{Bool, false}
+-- Many calls on a bad reader, on a closed one and on one that can be read; with room, the calls themselves. Assumes nothing.
+use Prim.Native.Nat.{ℕ, suc, _-_, _<_}
+use mathlib.Core.Path.{_≡_, refl, ap, subst, _∙_}
+use mathlib.Core.Bool.{Bool, true, false, cond}
 use mathlib.Core.List.{List}
 use native.Mathlib.Omega.{arith}
+use lib.ListN.{drop}
 use lib.IntN.{ℤ}
-use Rattle.refusal.specs.declared.Refusal.the-variants.{BadState}
+use Rattle.refusal.specs.declared.Refusal.{Refusal}
+use Rattle.refusal.specs.declared.Refusal.the-variants.{BadState, Closed}
+use Rattle.item.specs.Said.{refusing}
 use Rattle.state.specs.State.{goodReader}
-use Rattle.state.specs.Reading.{readCall}
+use Rattle.state.specs.Reading.{Step, step, openCall, goodCall, memoryOf, readCall, readerAfter}
 use Rattle.state.specs.declared.Reader.{Reader}
-use Rattle.many.specs.Many.{isFull, stopped, calls, room, Tells}
+use Rattle.state.proofs.Numbers.{picks-first, picks-second}
+use Rattle.many.specs.Many.{Run, seenBy, before, onSaid, refusedBy, calls, manyCalls, room, Tells}
 use Rattle.many.specs.Stores.{Room, unread}
+use Rattle.many.specs.declared.ManyAnswer.{ManyAnswer}
 use Rattle.many.specs.declared.Stop.the-variants as stops
 use Rattle.many.proofs.Runs.{begun, ended}
 
@@ -18,13 +23,48 @@ pub room-there : (n : ℕ) (rows tens : List ℤ) → n ≡ room rows tens → R
 room-there n rows tens e = record { rows = omega arith; tens = omega arith }
 
 module _ (n : ℕ) (r : Reader) (w : List ℕ) (last : Bool) (rows tens : List ℤ) where
-  pub no-room : n ≡ 0 → Tells (calls n r w last) rows tens (unread stops.Full r) rows tens
-  unfolding calls
-  no-room e = rw e (ended stops.Full _ 0 0 r refl refl (begun (stopped isFull 0 r) rows tens))
+  pub bad-reader : goodReader r ≡ false → Tells (manyCalls n r w last) rows tens (unread (stops.Refused BadState) r) rows tens
+  unfolding manyCalls
+  bad-reader g = rw g (ended (stops.Refused BadState) _ 0 0 r refl refl (begun (refusedBy BadState r) rows tens))
 
-  pub bad-reader : (n ≡ 0 → ⊥) → goodReader r ≡ false
-      → Tells (calls n r w last) rows tens (unread (stops.Refused BadState) r) rows tens
-  unfolding calls readCall
-  bad-reader h g =
-      let e : n ≡ suc (n - 1) = omega arith in
-      rw (e, g) (ended (stops.Refused BadState) _ 0 0 r refl refl (begun _ rows tens))
+  pub closed-reader : goodReader r ≡ true → r .scalars .closed ≡ true
+      → Tells (manyCalls n r w last) rows tens (unread (stops.Refused Closed) r) rows tens
+  unfolding manyCalls
+  closed-reader g c =
+      subst (λ (run : Run). Tells run rows tens (unread (stops.Refused Closed) r) rows tens)
+      (picks-first (r .scalars .closed) _ _ c ∙ picks-first (goodReader r) _ _ g)
+      (ended (stops.Refused Closed) _ 0 0 r refl refl (begun (refusedBy Closed r) rows tens))
+
+module _ (r : Reader) (w : List ℕ) (last : Bool) (rows tens rows₁ tens₁ : List ℤ) (answer : ManyAnswer) (n : ℕ) where
+  pub open-reader : n ≡ room rows tens → goodReader r ≡ true → r .scalars .closed ≡ false
+      → Tells (calls n r w last) rows tens answer rows₁ tens₁
+      → Tells (manyCalls (room rows tens) r w last) rows tens answer rows₁ tens₁
+  unfolding manyCalls
+  open-reader e g c t =
+      subst (λ (run : Run). Tells run rows tens answer rows₁ tens₁)
+      (ap (λ (k : ℕ). calls k r w last) e ∙ picks-second (r .scalars .closed) _ _ c ∙ picks-first (goodReader r) _ _ g)
+      t
+
+-- with room for a call it is the first call that refuses 17 and 18
+module _ (k : ℕ) (r : Reader) (w : List ℕ) (last : Bool) where
+  abbrev follow : Step → Run
+  follow t = onSaid (t .said) (λ e n. before (seenBy r t e n) (calls k (readerAfter t) (drop n w) last)) (readerAfter t)
+
+  abbrev refuses : Refusal → Step
+  refuses why = step (refusing why) (r .scalars) (memoryOf (r .entries))
+
+  tested-first : (good closed : Bool) (t : Step)
+      → cond good (cond closed (refusedBy Closed r) (follow (cond good (cond closed (refuses Closed) t) (refuses BadState)))) (refusedBy BadState r)
+      ≡ follow (cond good (cond closed (refuses Closed) t) (refuses BadState))
+  tested-first true true t = refl
+  tested-first true false t = refl
+  tested-first false closed t = refl
+
+  room-for-one : manyCalls (suc k) r w last ≡ calls (suc k) r w last
+  unfolding manyCalls calls readCall goodCall
+  room-for-one = tested-first (goodReader r) (r .scalars .closed) (openCall (r .scalars) (memoryOf (r .entries)) w last)
+
+pub with-room : (n : ℕ) (r : Reader) (w : List ℕ) (last : Bool) → 0 < n → manyCalls n r w last ≡ calls n r w last
+with-room n r w last h =
+    let e : n ≡ suc (n - 1) = omega (arith, h) in
+    rw e (room-for-one (n - 1) r w last)

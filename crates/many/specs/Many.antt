@@ -1,17 +1,19 @@
 -- Many reading calls, one behind the other, and the rows of numbers that tell their events.
 use Prim.Native.Nat.{ℕ, zero, suc, _+_, _*_, _/_, min}
 use mathlib.Core.Path.{_≡_}
-use mathlib.Core.Bool.{Bool, true, false}
+use mathlib.Core.Bool.{Bool, true, false, cond}
 use mathlib.Core.List.{List, [], _∷_, _++_}
 use lib.ListN.{length, take, drop}
 use lib.IntN.{ℤ, pos}
 use Rattle.refusal.specs.Numbers.{numberOf, valuesOf}
+use Rattle.refusal.specs.declared.Refusal.{Refusal}
+use Rattle.refusal.specs.declared.Refusal.the-variants.{BadState, Closed}
 use Rattle.num.specs.Wrap.{wrap32}
 use Rattle.item.specs.Said.{Said, gives, more, finish, refuses}
 use Rattle.item.specs.Contents.{cidOf, tagNumber}
 use Rattle.item.specs.declared.Cid.{Cid}
 use Rattle.item.specs.declared.Cid.the-variants.{Of, NoCid}
-use Rattle.state.specs.State.{Memory}
+use Rattle.state.specs.State.{Memory, goodReader}
 use Rattle.state.specs.Reading.{
   Event,
   tickStart,
@@ -89,6 +91,14 @@ calls zero r w last = stopped isFull 0 r
 calls (suc k) r w last =
     let t = readCall r w last in
     onSaid (t .said) (λ e n. before (seenBy r t e n) (calls k (readerAfter t) (drop n w) last)) (readerAfter t)
+
+abbrev pub refusedBy : Refusal → Reader → Run
+refusedBy why r = stopped (isRefused (numberOf why) (valuesOf why)) 0 r
+
+-- the same, where 17 and 18 come first even if there is room for no call
+unfoldable pub manyCalls : ℕ → Reader → List ℕ → Bool → Run
+manyCalls k r w last =
+    cond (goodReader r) (cond (r .scalars .closed) (refusedBy Closed r) (calls k r w last)) (refusedBy BadState r)
 
 -- ---- rows: eight numbers for an event
 

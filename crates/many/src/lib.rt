@@ -11,7 +11,7 @@ ghost use Rattle.state.specs.State.{entriesWith, readerWith, goodReader};
 ghost use Rattle.state.specs.Reading.{other};
 ghost use Rattle.state.specs.Views.{eventIs};
 ghost use Rattle.state.specs.Laws.{Sound};
-ghost use Rattle.many.specs.Many.{calls, flag, isPending, eventRow, put, room, Tells};
+ghost use Rattle.many.specs.Many.{calls, manyCalls, flag, isPending, eventRow, put, room, Tells};
 ghost use Rattle.many.specs.Stores.{Room, EventPut, rowsRead, answerOf, unread};
 use item::Cid;
 use item::Item;
@@ -307,7 +307,7 @@ fn unread(stop: Stop, reader: Reader) -> ManyAnswer
 }
 
 // Reads until there is no room for another event, the window runs out, the body finishes or a call is refused. Event i has its row of
-// eight numbers at 8 i of rows, and an input its ten numbers and the former ten at 20 i of tens. The state is tested once.
+// eight numbers at 8 i of rows, and an input its ten numbers and the former ten at 20 i of tens. The state is tested once, before the room.
 pub fn read_many(
     reader: Reader,
     window: &[u8],
@@ -315,16 +315,16 @@ pub fn read_many(
     rows: &mut [i32],
     tens: &mut [i32],
 ) -> ManyAnswer
-    ensures { λ r. ⌜ Tells (calls (room (now (rows .entry)) (now (tens .entry))) reader (now (window .entry)) last) (now (rows .entry)) (now (tens .entry)) r (now (rows .exit)) (now (tens .exit)) ⌝ }
+    ensures { λ r. ⌜ Tells (manyCalls (room (now (rows .entry)) (now (tens .entry))) reader (now (window .entry)) last) (now (rows .entry)) (now (tens .entry)) r (now (rows .exit)) (now (tens .exit)) ⌝ }
 {
-    let free = room_for(rows.len(), tens.len());
-    if free == 0 {
-        return unread(Stop::Full, reader);
-    }
     let scalars = reader.scalars;
     let entries = reader.entries;
     if !good::both(good::good_scalars(scalars), good::good_entries(entries)) {
         return unread(Stop::Refused(Refusal::BadState), reader);
     }
+    if scalars.closed {
+        return unread(Stop::Refused(Refusal::Closed), reader);
+    }
+    let free = room_for(rows.len(), tens.len());
     read_good(scalars, entries, window, last, rows, tens, free)
 }

@@ -5,7 +5,7 @@ ghost use lib.IntN.{pos, _+ℤ_};
 ghost use Rattle.fields.specs.Views.{zeros};
 ghost use Rattle.item.specs.Said.{refusing};
 ghost use Rattle.item.specs.Contents.{noArgs};
-ghost use Rattle.state.specs.State.{entriesWith, readerWith, goodReader};
+ghost use Rattle.state.specs.State.{entriesWith, goodReader};
 ghost use Rattle.state.specs.Reading.{step, openCall, memoryOf};
 ghost use Rattle.reader.specs.Answers.{
   recordEvent,
@@ -52,29 +52,13 @@ pub struct InputOf {
     pub input: [i32; 10],
 }
 
-fn good_state<'a>(
-    s: Scalars,
-    marks: &'a [u8; 128],
-    xs: &'a [i32; 128],
-    ys: &'a [i32; 128],
-    held: &'a [u8; 128],
-    inputs: &'a [i32; 1280],
-) -> bool
-    ensures { λ r. ⌜ r ≡ goodReader (readerWith s (entriesWith (now (marks .entry)) (now (xs .entry)) (now (ys .entry)) (now (held .entry)) (now (inputs .entry)))) ⌝ }
-{
-    good::both(
-        good::good_scalars(s),
-        good::good_lent(marks, xs, ys, held, inputs),
-    )
-}
-
 // Whether the reader is not refused 17.
 pub fn is_good(reader: Reader) -> bool
     ensures { λ r. ⌜ r ≡ goodReader reader ⌝ }
 {
     let scalars = reader.scalars;
     let entries = reader.entries;
-    good_state(
+    good::good_state(
         scalars,
         &entries.marks,
         &entries.xs,
@@ -263,7 +247,7 @@ pub fn read(reader: Reader, window: &[u8], last: bool) -> ReadAnswer
     let mut xs = entries.xs;
     let mut ys = entries.ys;
     let mut held = entries.held;
-    if !good_state(scalars, &marks, &xs, &ys, &held, &entries.inputs) {
+    if !good::good_state(scalars, &marks, &xs, &ys, &held, &entries.inputs) {
         return refused(reader, Refusal::BadState);
     }
     if scalars.closed {

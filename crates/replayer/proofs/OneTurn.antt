@@ -1,5 +1,5 @@
 -- One turn, from what its calls ensure. Assumes nothing.
-use Prim.Native.Nat.{ℕ, zero, suc, _+_, _*_, _≤_, min}
+use Prim.Native.Nat.{ℕ, zero, suc, _+_, _*_, _≤_, _<_, min}
 use mathlib.Core.Path.{_≡_, refl, sym, _∙_, ap}
 use mathlib.Core.Bool.{Bool, false}
 use mathlib.Core.List.{List, [], _∷_, _++_}
@@ -13,8 +13,9 @@ use Rattle.num.proofs.Cases.{by-bool}
 use Rattle.varint.specs.Written.{written}
 use Rattle.packer.proofs.Joined.{written-length, two-puts}
 use Rattle.state.specs.declared.Reader.{Reader}
-use Rattle.many.specs.Many.{Seen, Halt, isFull, wantsMore, finishes, isRefused, Run, calls, haltOf, room, rowsFrom, tensFrom, Tells}
+use Rattle.many.specs.Many.{Seen, Halt, isFull, wantsMore, finishes, isRefused, Run, calls, manyCalls, haltOf, room, rowsFrom, tensFrom, Tells}
 use Rattle.many.specs.declared.ManyAnswer.{ManyAnswer}
+use Rattle.many.proofs.Edges.{with-room}
 use Rattle.lines.specs.Lines.{longest, Puts, refusedWord}
 use Rattle.lines.proofs.Texts.{line-fits}
 use Rattle.replayer.specs.Replay.{full, windowOf, isLast, textOf, ends, endingOf, runText, turnRoom, turnRun, Turns}
@@ -82,10 +83,12 @@ module _ (reader : Reader) (bytes : List ℕ) (rows tens : List ℤ) (out : List
     seen = run .seen
 
     module _ (m : ManyAnswer) (rows₁ tens₁ : List ℤ) (end : ℕ) (e : end ≡ min (length bytes) full)
-        (t : Tells (calls (room (take (8 * n) rows) (take (20 * n) tens)) reader (take end bytes) (isLast bytes)) (take (8 * n) rows) (take (20 * n) tens) m rows₁ tens₁)
+        (t : Tells (manyCalls (room (take (8 * n) rows) (take (20 * n) tens)) reader (take end bytes) (isLast bytes)) (take (8 * n) rows) (take (20 * n) tens) m rows₁ tens₁)
       where
         ran : Tells run (take (8 * n) rows) (take (20 * n) tens) m rows₁ tens₁
-        ran = rw (e, room-is, take-least bytes full) at t
+        ran =
+            let some-room : 0 < n = omega arith in
+            rw (e, room-is, take-least bytes full, with-room n reader (windowOf bytes) (isLast bytes) some-room) at t
 
         count-le : m .count ≤ n
         count-le = omega (arith, ran .count, few n reader (windowOf bytes) (isLast bytes) .0)

@@ -7,7 +7,8 @@ use Rattle.state.specs.declared.Answer.{Answer}
 use Rattle.reader.specs.Answers.{saidWith}
 use Rattle.count.specs.Count.{versionIf, most}
 use Rattle.count.proofs.Runs.{NoEvent}
-use Rattle.count_each.proofs.Singles.{Far, far-start, far-full, far-end, far-more}
+use Rattle.count.proofs.Singles.{Far, far-start, far-full}
+use Rattle.count_each.proofs.Singles.{far-end, far-more}
 use Rattle.count_each.proofs.jolzerv_count_each.Statement.{statement}
 use Rattle.count_each.proofs.jolzerv_count_each.Tie as tie
 

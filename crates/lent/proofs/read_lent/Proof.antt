@@ -1,6 +1,6 @@
 -- `lent::read_lent` meets its contract: a walk of its MIR, by hand. The borrow of the scalars is opened, they are copied out and passed
--- to `step::good_call` by value, with the references, the window and the flag; the scalars that it left are stored over them, and the borrow is
--- closed there. All that the walk knows of `step::good_call` is that it meets its contract. Assumes nothing.
+-- to `tested_call` by value, with the references, the window and the flag; the scalars that it left are stored over them, and the borrow is
+-- closed there. All that the walk knows of `tested_call` is that it meets its contract. Assumes nothing.
 use Prim.Native.Nat.{ℕ}
 use mathlib.Core.Path.{refl, ap}
 use mathlib.Core.List.{List, [], _∷_}
@@ -51,10 +51,10 @@ use Rattle.state.proofs.Answer.Laws as E′
 use Rattle.state.proofs.Outcome as O
 use Rattle.state.proofs.Outcome.Laws as O′
 use Rattle.lent.proofs.Lending.{Marks, Places, Inputs, Ten, Lent, rows, window, flag, valsOf, machsOf, Left, lasting, Says, mach, told, answer-is, scalars-are}
-use Rattle.step.proofs.good_call as good-call
-use Rattle.step.proofs.good_call.Symbol as good-call-def
-use Rattle.step.proofs.good_call.Symbol.{name as #step·good-call}
-use Rattle.step.proofs.good_call.Met as good-call-thm
+use Rattle.lent.proofs.tested_call as tested-call
+use Rattle.lent.proofs.tested_call.Symbol as tested-call-def
+use Rattle.lent.proofs.tested_call.Symbol.{name as #lent·tested-call}
+use Rattle.lent.proofs.tested_call.Met as tested-call-thm
 use Rattle.lent.proofs.read_lent.Key.{name as #lent·read-lent}
 use Rattle.lent.proofs.read_lent as read-lent
 use Rattle.lent.proofs.read_lent.Statement as stated
@@ -65,8 +65,8 @@ stayed =
     (stay-ref (0 ∷ []) tt (plain (λ _. T.the-row)), (gave-ref (1 ∷ []) tt (plain (λ _. Marks)), (gave-ref (2 ∷ []) tt (plain (λ _. Places)), (gave-ref (3 ∷ []) tt (plain (λ _. Places)), (gave-ref (4 ∷ []) tt (plain (λ _. Marks)), (gave-ref (5 ∷ []) tt (plain (λ _. Inputs)), (gave-ref (6 ∷ []) tt (plain (λ _. Ten)), (gave-ref (7 ∷ []) tt (plain (λ _. Ten)), (stay-dropped (shrSliceOf (8 ∷ []) tt (plain (λ _. u8))) yes, (stay-dropped (plain (λ _. Boolean)) yes, tt))))))))))
 
 -- the contract that the walk cites
-abbrev GoodCall : {M : Type 1} (𝓤 : URA M) (H : Heap 𝓤) (A : Atoms 𝓤) (at-mem : Memory → SProp 𝓤) (run : Routine → Fun 𝓤) → Contract 𝓤
-GoodCall 𝓤 H A at-mem run = tripleOf 𝓤 H A good-call.signature (good-call.spec 𝓤 H A at-mem run)
+abbrev TestedCall : {M : Type 1} (𝓤 : URA M) (H : Heap 𝓤) (A : Atoms 𝓤) (at-mem : Memory → SProp 𝓤) (run : Routine → Fun 𝓤) → Contract 𝓤
+TestedCall 𝓤 H A at-mem run = tripleOf 𝓤 H A tested-call.signature (tested-call.spec 𝓤 H A at-mem run)
 
 module _ {M : Type 1} (𝓤 : URA M) (H : Heap 𝓤) (A : Atoms 𝓤) (W : Given 𝓤 H A) (at-mem : Memory → SProp 𝓤) (run : Routine → Fun 𝓤)
     (κs : Lfts 9) (qs : Shares 9) (x : RefT Scalars) (a : Lent) where
@@ -100,17 +100,17 @@ module _ {M : Type 1} (𝓤 : URA M) (H : Heap 𝓤) (A : Atoms 𝓤) (W : Given
       says ! e $ move ! (2 ∷ 3 ∷ []) $ join ! $ frame ! $ feqI ! (List Val) (vptr b o ∷ []) (vptr b o ∷ []) refl $ fjoin3 ! $ fjoin ! $
       owned ! E.the-row (Is E.the-row) (EL.makes E.the-type E′.the-plain 𝓤 H A) (r .answer) _ gr $ move ! (1 ∷ 0 ∷ []) $ done !
 
-  -- what `step::good_call`'s triple binds outside, and that the caller has what it asks
-  abbrev to : GoodCall 𝓤 H A at-mem run .Ghost
+  -- what `tested_call`'s triple binds outside, and that the caller has what it asks
+  abbrev to : TestedCall 𝓤 H A at-mem run .Ghost
   to = ((κs .1, qs .1, tt, (h, a), (mach h ∷ [], valsOf a)), tt)
 
   goes : Is T.the-row h (mach h ∷ [])
-      → ent 𝓤 (⋆ 𝓤 H A (raw (toks 𝓤 A 8 (κs .1) (qs .1)) ∷ ‵ (owns (rows (κs .1)) a (valsOf a)) ∷ [])) (GoodCall 𝓤 H A at-mem run .pre to)
+      → ent 𝓤 (⋆ 𝓤 H A (raw (toks 𝓤 A 8 (κs .1) (qs .1)) ∷ ‵ (owns (rows (κs .1)) a (valsOf a)) ∷ [])) (TestedCall 𝓤 H A at-mem run .pre to)
   goes gh =
       qed W (raw (toks 𝓤 A 8 (κs .1) (qs .1)) ∷ ‵ (owns (rows (κs .1)) a (valsOf a)) ∷ []) ∵ move ! (1 ∷ []) $
       owned ! T.the-row (Is T.the-row) (LL.makes T.the-type T′.the-plain 𝓤 H A) h _ gh $ fjoin ! $ move ! (1 ∷ 0 ∷ []) $ join ! $ frame ! $ done !
 
-  module _ (C : Calls 𝓤 H) (Λ : Loops 𝓤 H) (fm : FmC 𝓤 H (W .laws) C) (known : Triple 𝓤 (C #step·good-call) (GoodCall 𝓤 H A at-mem run)) where
+  module _ (C : Calls 𝓤 H) (Λ : Loops 𝓤 H) (fm : FmC 𝓤 H (W .laws) C) (known : Triple 𝓤 (C #lent·tested-call) (TestedCall 𝓤 H A at-mem run)) where
     walk : Is (ShrSlice (named 8) (κs .1 .1 .1 .1 .1 .1 .1 .1 .0) u8) (window a) (slice-vals (window a))
         → Is Boolean (flag a) (bool-vals (flag a)) → ent 𝓤 (onEntry 𝓤 H A read-lent.signature κs qs (x, a) (ptr-vals x, valsOf a))
         (WpFn 𝓤 H C Λ code.function (vptr b o ∷ machsOf a) Post)
@@ -140,8 +140,8 @@ module _ {M : Type 1} (𝓤 : URA M) (H : Heap 𝓤) (A : Atoms 𝓤) (W : Given
         assigns ! (addr ! (from ! (hop ! (look ! 31 refl) (stop !)))) (from ! (stop !)) (init ! 9 refl (tt, tt)) $
         assigns ! (addr ! (from ! (hop ! (look ! 29 refl) (stop !)))) (from ! (stop !)) (init ! 7 refl (tt, tt)) $
         assigns ! (addr ! (from ! (hop ! (look ! 27 refl) (stop !)))) (from ! (stop !)) (init ! 5 refl (tt, tt)) $
-        move ! (46 ∷ 45 ∷ []) $ use2 W (raw (GoodCall 𝓤 H A at-mem run .pre to)) (goes gh) $
-        calls-at ! fm (GoodCall 𝓤 H A at-mem run) known to
+        move ! (46 ∷ 45 ∷ []) $ use2 W (raw (TestedCall 𝓤 H A at-mem run .pre to)) (goes gh) $
+        calls-at ! fm (TestedCall 𝓤 H A at-mem run) known to
         (and-then ! (load ! (from ! (stop !)) (look ! 20 refl))
         (and-then ! (load ! (from ! (stop !)) (look ! 18 refl))
         (and-then ! (load ! (from ! (stop !)) (look ! 16 refl))
@@ -153,9 +153,9 @@ module _ {M : Type 1} (𝓤 : URA M) (H : Heap 𝓤) (A : Atoms 𝓤) (W : Given
         (and-then ! (load ! (from ! (stop !)) (look ! 26 refl))
         (and-then ! (load ! (from ! (stop !)) (look ! 24 refl)) (no-more !))))))))))) (λ v.
         use1 W (later (some (λ (r : Outcome). (raw (toks 𝓤 A 8 (κs .1) (qs .1)) ⊛ ‵ (O.the-row .own r (v ∷ []))) ⊛
-        raw (ensured 𝓤 H A good-call.ended (good-call.clauses 𝓤 H A at-mem run) (κs .1) (h, a) tt r)))) (id⊢ 𝓤 _) $ await ! tt $ pick ! (λ r.
+        raw (ensured 𝓤 H A tested-call.ended (tested-call.clauses 𝓤 H A at-mem run) (κs .1) (h, a) tt r)))) (id⊢ 𝓤 _) $ await ! tt $ pick ! (λ r.
         split ! $ move ! (1 ∷ []) $ use1 W (some (λ (zs : Unit {0} × Left).
-        ‵ (lasts good-call.ended (κs .1) (h, a) zs) ⊛ raw (fact 𝓤 (Says h a (r .answer) (r .scalars) (zs .1))))) (id⊢ 𝓤 _) $ pick ! (λ zs.
+        ‵ (lasts tested-call.ended (κs .1) (h, a) zs) ⊛ raw (fact 𝓤 (Says h a (r .answer) (r .scalars) (zs .1))))) (id⊢ 𝓤 _) $ pick ! (λ zs.
         split ! $ move ! (1 ∷ []) $ heard ! (Says h a (r .answer) (r .scalars) (zs .1)) (λ e. fsplit ! $ drop ! $
         move ! (1 ∷ []) $ split ! $ move ! (1 ∷ []) $ peeks ! O.the-row (Is O.the-row) (shows 𝓤 H A O.the-row) r (v ∷ []) (λ is.
         -- [the outcome's; the other tokens; the last values; the cell 3; what the old scalars own; the open borrow; obs; auth; _19 8; …; _0 46; …]
@@ -180,7 +180,7 @@ module _ {M : Type 1} (𝓤 : URA M) (H : Heap 𝓤) (A : Atoms 𝓤) (W : Given
         keep ! (0 ∷ 1 ∷ 2 ∷ 3 ∷ 4 ∷ []) $ by ! (exits r (zs .1) e (answer-is r (v ∷ []) is)))))))))))))))))))))))))))))
 
 module _ {M : Type 1} (𝓤 : URA M) (H : Heap 𝓤) (A : Atoms 𝓤) (W : Given 𝓤 H A) (at-mem : Memory → SProp 𝓤) (run : Routine → Fun 𝓤) where
-  walks : (C : Calls 𝓤 H) (Λ : Loops 𝓤 H) → FmC 𝓤 H (W .laws) C → Triple 𝓤 (C #step·good-call) (GoodCall 𝓤 H A at-mem run)
+  walks : (C : Calls 𝓤 H) (Λ : Loops 𝓤 H) → FmC 𝓤 H (W .laws) C → Triple 𝓤 (C #lent·tested-call) (TestedCall 𝓤 H A at-mem run)
       → Walks 𝓤 H A read-lent.ended stayed (WpFn 𝓤 H C Λ code.function) (read-lent.clauses 𝓤 H A at-mem run)
   walks C Λ fm known =
       walked 𝓤 H A read-lent.ended stayed (read-lent.clauses 𝓤 H A at-mem run) (WpFn 𝓤 H C Λ code.function)
@@ -194,7 +194,7 @@ module _ {M : Type 1} (𝓤 : URA M) (H : Heap 𝓤) (A : Atoms 𝓤) (W : Given
       (goes-ref 𝓤 H A W 9 0 tt (plain (λ _. T.the-row)), (goes-gave-ref 𝓤 H A W 9 1 tt (plain (λ _. Marks)), (goes-gave-ref 𝓤 H A W 9 2 tt (plain (λ _. Places)), (goes-gave-ref 𝓤 H A W 9 3 tt (plain (λ _. Places)), (goes-gave-ref 𝓤 H A W 9 4 tt (plain (λ _. Marks)), (goes-gave-ref 𝓤 H A W 9 5 tt (plain (λ _. Inputs)), (goes-gave-ref 𝓤 H A W 9 6 tt (plain (λ _. Ten)), (goes-gave-ref 𝓤 H A W 9 7 tt (plain (λ _. Ten)), (goes-dropped 𝓤 H A W 9 (shrSliceOf (8 ∷ []) tt (plain (λ _. u8))) yes (λ κs y f. refl), (goes-dropped 𝓤 H A W 9 (plain (λ _. Boolean)) yes (λ κs y f. refl), tt))))))))))
 
 meets : {M : Type 1} (𝓤 : URA M) (H : Heap 𝓤) (A : Atoms 𝓤) (W : Given 𝓤 H A) (at-mem : Memory → SProp 𝓤) (run : Routine → Fun 𝓤) (𝓣 : Tables 𝓤 H)
-    → Triple 𝓤 (𝓣 .C #step·good-call) (GoodCall 𝓤 H A at-mem run)
+    → Triple 𝓤 (𝓣 .C #lent·tested-call) (TestedCall 𝓤 H A at-mem run)
     → Meets 𝓤 H A read-lent.signature (WpFn 𝓤 H (𝓣 .C) (𝓣 .Λ) code.function) (read-lent.spec 𝓤 H A at-mem run)
 meets 𝓤 H A W at-mem run 𝓣 known =
     walk-meets 𝓤 H A read-lent.ended stayed W (all-go 𝓤 H A W at-mem run) (read-lent.clauses 𝓤 H A at-mem run)
@@ -207,4 +207,4 @@ read-lent-spec 𝓤 H 𝓜 𝓖 𝓡 =
     entered 𝓤 H (tripleOf 𝓤 H (𝓖 .A) read-lent.signature (read-lent.spec 𝓤 H (𝓖 .A) (𝓜 .mem) (𝓡 .run)))
     (tables 𝓤 H 𝓜 𝓡 code.env .C) (tables 𝓤 H 𝓜 𝓡 code.env .Λ) #lent·read-lent code.function (code.unfolded 𝓤 H 𝓜 𝓡)
     (meets 𝓤 H (𝓖 .A) (givenOf 𝓤 H 𝓜 𝓖) (𝓜 .mem) (𝓡 .run) (tablesOf 𝓤 H 𝓜 (tables 𝓤 H 𝓜 𝓡 code.env))
-    (cited 𝓤 H (GoodCall 𝓤 H (𝓖 .A) (𝓜 .mem) (𝓡 .run)) 𝓜 𝓡 code.env #step·good-call good-call-def.routine code.calls-step·good-call (good-call-thm.met 𝓤 H 𝓜 𝓖 𝓡)))
+    (cited 𝓤 H (TestedCall 𝓤 H (𝓖 .A) (𝓜 .mem) (𝓡 .run)) 𝓜 𝓡 code.env #lent·tested-call tested-call-def.routine code.calls-lent·tested-call (tested-call-thm.met 𝓤 H 𝓜 𝓖 𝓡)))

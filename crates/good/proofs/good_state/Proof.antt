@@ -1,8 +1,8 @@
--- `reader::good_state` meets its contract. Assumes nothing.
+-- `good::good_state` meets its contract. Assumes nothing.
 use Rattle.state.specs.State.{goodReader}
 use borrow.Author.Needs.{needs}
-use Rattle.reader.proofs.good_state.Statement.{statement}
-use Rattle.reader.proofs.good_state.Tie as tie
+use Rattle.good.proofs.good_state.Statement.{statement}
+use Rattle.good.proofs.good_state.Tie as tie
 
 returns : tie.Need-returns
 unfolding goodReader
