@@ -1,0 +1,20 @@
+-- `lookup_vectors::read_body` is safe and ends. Assumes nothing.
+use Prim.Native.Nat.{_≤_, _-_}
+use borrow.Author.Needs.{needs}
+use Rattle.lookup_vectors.proofs.read_body.Statement.{statement}
+use Rattle.lookup_vectors.proofs.read_body.Tie as tie
+
+abbrev Inv-loop : tie.InvT-loop
+Inv-loop body each reader₀ at₀ turns₀ reader at turns = turns ≤ 4000000
+
+abbrev μ-loop : tie.MeasureT-loop
+μ-loop body each reader₀ at₀ turns₀ reader at turns = 4000000 - turns
+
+pub read-body-spec : {M : Type 1} → statement M
+read-body-spec =
+    tie.close
+    (tie.spec Inv-loop μ-loop (λ c κs. search needs) (λ c. search needs) (λ c. search needs) (λ c. search needs) (λ c. search needs)
+    (λ c κs. search needs) (λ c κs. search needs) (λ c. search needs) (λ c. search needs) (λ c. search needs) (λ c. search needs)
+    (λ c. search needs) (λ c. search needs) (λ c. search needs) (λ c κs. search needs) (λ c. search needs) (λ c. search needs)
+    (λ c κs. search needs) (λ c. search needs) (λ c κs. search needs) (λ c. search needs) (λ c. search needs) (λ c. search needs)
+    (λ c. search needs) (λ c. search needs))
