@@ -1,21 +1,16 @@
-//! `oracle compare N SEED REPLAY`: the replay program against libtw2 on generated inputs.
+//! `oracle compare N SEED REPLAY LOOKUPS`: the replay program and lookup_vectors against libtw2 on generated inputs.
 
+use crate::batch::Batch;
 use crate::expected::expected;
-use crate::expected::Expected;
 use crate::expected::Left;
-use crate::fields::hex;
-use crate::program::output;
-use crate::shrink::shrink;
+use crate::subject::Subject;
+use crate::subject::Task;
 use generator::Sort;
 use std::io;
-use std::io::Write;
 use std::process::ExitCode;
 
 /// Inputs of the sort `long` take a second or two each: there is one for this many of each other sort.
 const LONG_SHARE: u64 = 200;
-
-/// So much output beyond the expected one is kept.
-const SURPLUS: usize = 1000;
 
 #[derive(Default)]
 struct Count {
@@ -25,18 +20,25 @@ struct Count {
     differences: u64,
 }
 
-pub fn command(count: u64, seed: u64, program: &str) -> io::Result<ExitCode> {
+pub fn command(count: u64, seed: u64, replay: &str, lookups: &str) -> io::Result<ExitCode> {
     let mut total = Count::default();
+    let mut batch = Batch::new(lookups);
     let mut parts = Vec::new();
     for sort in generator::SORTS {
         let inputs = sort_count(sort, count);
         for index in 0..inputs {
-            compare_one(program, sort, seed, index, &mut total)?;
+            let input = generator::input(sort, seed, index);
+            let origin = format!("generate {} {seed} {index}", sort.name());
+            compare_one(replay, &input, &origin, &mut total)?;
+            batch.add(index, input, origin)?;
         }
         parts.push(format!("{} {inputs}", sort.name()));
     }
+    batch.compare()?;
     println!("{}", summary(seed, &parts, &total));
-    Ok(ExitCode::from(u8::from(total.differences > 0)))
+    println!("{}", batch.summary());
+    let differences = total.differences + batch.differences();
+    Ok(ExitCode::from(u8::from(differences > 0)))
 }
 
 fn sort_count(sort: Sort, count: u64) -> u64 {
@@ -46,56 +48,28 @@ fn sort_count(sort: Sort, count: u64) -> u64 {
     }
 }
 
-fn compare_one(
-    program: &str,
-    sort: Sort,
-    seed: u64,
-    index: u64,
-    total: &mut Count,
-) -> io::Result<()> {
-    let input = generator::input(sort, seed, index);
-    let wanted = expected(&input);
-    let printed = printed(program, &input, &wanted)?;
+fn compare_one(program: &str, input: &[u8], origin: &str, total: &mut Count) -> io::Result<()> {
+    let subject = Subject {
+        program,
+        task: Task::Replay,
+    };
+    let wanted = expected(input);
     total.inputs += 1;
     total.client += u64::from(wanted.left == Some(Left::Client));
     total.too_long += u64::from(wanted.left == Some(Left::TooLong));
-    if printed == wanted.text {
+    if subject.printed(input, &wanted.text)? == wanted.text {
         return Ok(());
     }
     total.differences += 1;
     if total.differences == 1 {
-        println!("first difference: generate {} {seed} {index}", sort.name());
-        report(program, &input)?;
-        println!("made shorter:");
-        let shorter = shrink(input, |candidate| differs(program, candidate))?;
-        report(program, &shorter)?;
+        subject.show(input, origin)?;
     }
     Ok(())
 }
 
-/// The program's output, as far as it can matter.
-fn printed(program: &str, input: &[u8], wanted: &Expected) -> io::Result<String> {
-    output(program, input, wanted.text.len() + SURPLUS)
-}
-
-fn differs(program: &str, input: &[u8]) -> io::Result<bool> {
-    let wanted = expected(input);
-    Ok(printed(program, input, &wanted)? != wanted.text)
-}
-
-fn report(program: &str, input: &[u8]) -> io::Result<()> {
-    let wanted = expected(input);
-    let mut out = io::stdout().lock();
-    writeln!(out, "input: {}", hex(input))?;
-    writeln!(out, "libtw2, with refused 10 and too long put in:")?;
-    write!(out, "{}", wanted.text)?;
-    writeln!(out, "the program:")?;
-    writeln!(out, "{}", printed(program, input, &wanted)?)
-}
-
 fn summary(seed: u64, parts: &[String], total: &Count) -> String {
     format!(
-        "seed {seed}; {}; {} inputs; left the domain: {} by refused 10, {} by too long; differences: {}",
+        "replay: seed {seed}; {}; {} inputs; left the domain: {} by refused 10, {} by too long; differences: {}",
         parts.join(", "),
         total.inputs,
         total.client,

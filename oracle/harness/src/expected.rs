@@ -7,7 +7,7 @@ use crate::text;
 use libtw2_teehistorian::raw::Item;
 
 const WINDOW: usize = 65536;
-const LARGEST_CLIENT: i32 = 127;
+pub const LARGEST_CLIENT: i32 = 127;
 
 #[derive(Clone, Copy, PartialEq)]
 pub enum Left {
@@ -63,7 +63,7 @@ fn lines(mut run: Run) -> Expected {
     }
 }
 
-fn has_large_client(event: &Item) -> bool {
+pub fn has_large_client(event: &Item) -> bool {
     match event {
         Item::PlayerNew(i) => i.cid > LARGEST_CLIENT,
         Item::Input(i) => i.cid > LARGEST_CLIENT,

@@ -1,15 +1,20 @@
 //! libtw2's reader, and what is compared with it.
 
+pub mod batch;
 pub mod bench;
+pub mod board;
 pub mod compare;
 pub mod expected;
 pub mod fields;
+pub mod framed;
 pub mod integers;
+pub mod lookups;
 pub mod program;
 pub mod records;
 pub mod replay;
 pub mod run;
 pub mod shrink;
+pub mod subject;
 pub mod text;
 
 use std::io;

@@ -3,9 +3,11 @@
 use oracle::bench;
 use oracle::compare;
 use oracle::expected;
+use oracle::framed;
 use oracle::input;
 use oracle::integers;
 use oracle::invalid;
+use oracle::lookups;
 use oracle::records;
 use oracle::replay;
 use std::io;
@@ -14,10 +16,12 @@ use std::process::ExitCode;
 const USAGE: &str = "usage:
   oracle replay [--used] [--board] [--fields]  < INPUT
   oracle expected                              < INPUT
+  oracle lookups                               < INPUTS
+  oracle framed                                < LINES
   oracle records                               < LINES
   oracle integers                              < LINES
   oracle bench FILE ROUNDS
-  oracle compare N SEED REPLAY";
+  oracle compare N SEED REPLAY LOOKUPS";
 
 fn main() -> ExitCode {
     let arguments: Vec<String> = std::env::args().skip(1).collect();
@@ -35,11 +39,13 @@ fn command(words: &[&str]) -> io::Result<ExitCode> {
     match words {
         ["replay", options @ ..] => replay::command(&replay::Options::parse(options)?)?,
         ["expected"] => print!("{}", expected::expected(&input()?).text),
+        ["lookups"] => lookups::command()?,
+        ["framed"] => framed::command()?,
         ["records"] => records::command()?,
         ["integers"] => integers::command()?,
         ["bench", file, rounds] => bench::command(file, number(rounds)?)?,
-        ["compare", count, seed, program] => {
-            return compare::command(number(count)?, number(seed)?, program);
+        ["compare", count, seed, replay, lookups] => {
+            return compare::command(number(count)?, number(seed)?, replay, lookups);
         }
         _ => return Err(invalid(USAGE)),
     }

@@ -1,5 +1,6 @@
 //! `oracle replay`: what the replay program prints, by libtw2.
 
+use crate::board::write_client;
 use crate::fields::fields;
 use crate::input;
 use crate::invalid;
@@ -114,14 +115,7 @@ fn board(reader: &Reader, named: &BTreeSet<i32>, out: &mut impl Write) -> io::Re
     let end = reader.cids().end;
     let above = named.range(DENSE..).copied();
     for client in (0..DENSE).chain(above).take_while(|client| *client < end) {
-        if let Some(pos) = reader.player_pos(client) {
-            writeln!(out, "pos {client} {} {}", pos.x, pos.y)?;
-        }
-        if let Some(input) = reader.input(client) {
-            write!(out, "inp {client}")?;
-            text::write_numbers(out, &input)?;
-            writeln!(out)?;
-        }
+        write_client(out, reader, client)?;
     }
     writeln!(out, "cids {end}")
 }
