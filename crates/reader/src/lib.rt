@@ -19,9 +19,12 @@ ghost use Rattle.reader.specs.Answers.{
   inputAnswer,
   inputFor,
 };
+ghost use Rattle.reader.specs.Wanted.{WantedIs};
 use fields::Args;
 use item::Kind;
 use item::KindRead;
+use item::Version;
+use item::VersionOf;
 use packer::Part;
 use refusal::Refusal;
 use state::Answer;
@@ -40,6 +43,18 @@ pub struct ReadAnswer {
     pub args: Args,
 }
 
+// Whether there is an empty reader in a version, or a refusal.
+pub enum WantedAnswer {
+    Is,
+    Refused(Refusal),
+}
+
+// An empty reader wanted in a version; beside a refusal stands the one of version 1.
+pub struct WantedReader {
+    pub answer: WantedAnswer,
+    pub reader: Reader,
+}
+
 // A position, or none.
 pub enum Pos {
     At { x: i32, y: i32 },
@@ -50,6 +65,23 @@ pub enum Pos {
 pub struct InputOf {
     pub there: bool,
     pub input: [i32; 10],
+}
+
+// An empty reader in a version, or refusal 2.
+pub fn wanted(version: i32) -> WantedReader
+    ensures { λ r. ⌜ WantedIs version r ⌝ }
+{
+    let found = item::version_of(version);
+    match found {
+        VersionOf::Is(v) => WantedReader {
+            answer: WantedAnswer::Is,
+            reader: Reader::empty(v),
+        },
+        VersionOf::Refused(why) => WantedReader {
+            answer: WantedAnswer::Refused(why),
+            reader: Reader::empty(Version::V1),
+        },
+    }
 }
 
 // Whether the reader is not refused 17.

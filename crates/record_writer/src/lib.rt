@@ -4,7 +4,7 @@ ghost use mathlib.Core.Bool.{true, _&&_};
 ghost use mathlib.Core.List.{map};
 ghost use Prim.Native.Nat.{_≤_, _<_};
 ghost use lib.ListN.{length, take};
-ghost use Rattle.varint.specs.Written.{written, wrote, writtenIf, wroteIf, wroteSaid};
+ghost use Rattle.varint.specs.Written.{written, wrote, writtenIf, wroteIf};
 ghost use Rattle.packer.specs.Parts.{shown};
 ghost use Rattle.packer.specs.Texts.{isData};
 ghost use Rattle.fields.specs.Writing.{stringsBytes};
@@ -12,7 +12,7 @@ ghost use Rattle.item.specs.Extensions.{idAt};
 ghost use Rattle.item.specs.Contents.{fromFields};
 ghost use Rattle.item.specs.declared.Tag.the-variants.{Named};
 ghost use Rattle.written.specs.Written.{exBytes};
-ghost use Rattle.written.specs.Unwritable.{writeCall, targetAfter};
+ghost use Rattle.written.specs.Unwritable.{Writes};
 ghost use Rattle.plans.specs.Plans.{
   intIf,
   rawIf,
@@ -335,8 +335,7 @@ fn write_named(
 // The record's bytes into the target, at a place, and nothing else: 11 where one of the eight tests of `recordWritable` holds, then 9
 // where the target is too short.
 pub fn write_record(version: Version, value: Record, s: &[u8], out: &mut [u8], at: usize) -> Wrote
-    ensures answer { λ r. ⌜ wroteSaid r ≡ writeCall version (now (s .entry)) value (now (out .entry)) at ⌝ }
-    ensures target { λ r. ⌜ now (out .exit) ≡ targetAfter version (now (s .entry)) value (now (out .entry)) at ⌝ }
+    ensures { λ r. ⌜ Writes version (now (s .entry)) value (now (out .entry)) at r (now (out .exit)) ⌝ }
 {
     let item = value.item;
     let ten = value.input;

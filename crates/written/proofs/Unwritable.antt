@@ -1,7 +1,7 @@
 -- The eight tests of specs/Unwritable.antt, and the structure of records: a record has a written form by both or by neither. Assumes
 -- nothing.
-use Prim.Native.Nat.{ℕ, zero, suc, _≤_}
-use mathlib.Core.Path.{_≡_, refl, sym, _∙_, ap}
+use Prim.Native.Nat.{ℕ, zero, suc}
+use mathlib.Core.Path.{_≡_, refl, _∙_}
 use mathlib.Core.Bool.{Bool, true, false, not, _&&_, _||_, and-true, or-false, and-assoc, and-comm, and-self, and-self-left, Bool·not-not}
 use mathlib.Core.List.{List, [], _∷_, map}
 use native.Mathlib.Omega.{arith}
@@ -20,7 +20,7 @@ use Rattle.fields.specs.Writing.{allNoZero, allWritable, inside, allInside, par
 use Rattle.fields.specs.declared.Args.{Args}
 use Rattle.shapes.specs.Shapes.{idPart}
 use Rattle.item.specs.Extensions.{count, extensions, payloadAt, find}
-use Rattle.item.specs.Contents.{itemOf, recordWith}
+use Rattle.item.specs.Contents.{recordWith}
 use Rattle.item.specs.declared.Version.{Version}
 use Rattle.item.specs.declared.Item.{Item}
 use Rattle.item.specs.declared.Item.the-variants as items

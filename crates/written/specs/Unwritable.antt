@@ -1,11 +1,13 @@
 -- The records that have no written form and are refused 11: those for which one of eight tests holds. docs/FORMAT.md, "The writer".
 use Prim.Native.Nat.{ℕ}
+use mathlib.Core.Path.{_≡_}
 use mathlib.Core.Bool.{Bool, true, false, not, _&&_, _||_}
 use mathlib.Core.List.{List, [], _∷_, map}
 use lib.Dec.{leb, eqb}
 use lib.Signed.{nonNeg}
 use Rattle.refusal.specs.Said.{Said}
-use Rattle.varint.specs.Written.{writtenIf, writing}
+use Rattle.varint.specs.Written.{writtenIf, wroteSaid, writing}
+use Rattle.varint.specs.declared.Wrote.{Wrote}
 use Rattle.packer.specs.Texts.{noZero, isData}
 use Rattle.fields.specs.Fields.{Field, int, dt, mask, str, uuid, blob, args, Value, num, bytes, strings, mean}
 use Rattle.fields.specs.Writing.{allNoZero, smallDt, partsInside}
@@ -164,10 +166,17 @@ recordWritable v s r =
     || knownIdentifier s r
     || partOutside s r)
 
--- ---- the writer's call: the place past the record's bytes, 11 or 9; and the target after it
+-- ---- the writer's call
 
+-- the place past the record's bytes, 11 or 9
 abbrev pub writeCall : Version → List ℕ → Record → List ℕ → ℕ → Said ℕ
 writeCall v s r xs at = writing (recordWritable v s r) xs at (recordBytes s r)
 
+-- the target after it
 abbrev pub targetAfter : Version → List ℕ → Record → List ℕ → ℕ → List ℕ
 targetAfter v s r xs at = writtenIf (recordWritable v s r) xs at (recordBytes s r)
+
+-- the answer w, and the target ys after it
+pub record Writes (v : Version) (s : List ℕ) (r : Record) (xs : List ℕ) (at : ℕ) (w : Wrote) (ys : List ℕ) : Type 0 where
+  pub answer : wroteSaid w ≡ writeCall v s r xs at
+  pub target : ys ≡ targetAfter v s r xs at
