@@ -1,0 +1,21 @@
+-- The inputs of a test program: one behind the other, each after its length in one to three bytes, the low one first.
+use Prim.Native.Nat.{ℕ, _+_, _*_}
+use mathlib.Core.Bool.{cond}
+use mathlib.Core.List.{List}
+use lib.ListN.{length, getD}
+use lib.Dec.{leb}
+use Rattle.packer.specs.Parts.{readRaw}
+use Rattle.packer.specs.declared.PartRead.{PartRead}
+use Rattle.packer.specs.declared.PartRead.the-variants.{RunsOut}
+
+-- byte k of a number of so many bytes at a place
+unfoldable pub digitAt : List ℕ → ℕ → ℕ → ℕ → ℕ
+digitAt s at width k = cond (leb width k) 0 (getD s (at + k) 0)
+
+-- the number
+abbrev pub lengthAt : List ℕ → ℕ → ℕ → ℕ
+lengthAt s at width = digitAt s at width 0 + 256 * digitAt s at width 1 + 65536 * digitAt s at width 2
+
+-- the input whose length begins at a place: its part and the place of the next; or that no whole one is left
+unfoldable pub caseAt : List ℕ → ℕ → ℕ → PartRead
+caseAt s at width = cond (leb (at + width) (length s)) (readRaw (lengthAt s at width) s (at + width)) RunsOut
