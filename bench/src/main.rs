@@ -57,9 +57,10 @@ fn measure(file: &Path, rounds: u32) -> io::Result<Report> {
     for round in 0..rounds.max(1) {
         report.readers[0].time(|| readers::libtw2(*version, body))?;
         report.readers[1].time(|| readers::many(*version, body))?;
-        // by value it takes seconds
+        // one event a call takes seconds
         if round < 2 {
-            report.readers[2].time(|| readers::each(*version, body))?;
+            report.readers[2].time(|| readers::lent(*version, body))?;
+            report.readers[3].time(|| readers::each(*version, body))?;
         }
         report.programs[0].run(ORACLE, &["replay"], file)?;
         report.programs[1].run(REPLAY, &[], file)?;

@@ -8,6 +8,7 @@ use std::io;
 
 extern "C" {
     fn jolzerv_count_each(second: bool, body: *const u8, length: usize) -> u64;
+    fn jolzerv_count_lent(second: bool, body: *const u8, length: usize) -> u64;
     fn jolzerv_count_many(second: bool, body: *const u8, length: usize) -> u64;
 }
 
@@ -26,6 +27,12 @@ pub fn libtw2(version: u8, body: &[u8]) -> io::Result<u64> {
 pub fn each(version: u8, body: &[u8]) -> io::Result<u64> {
     // SAFETY: a pointer and a length of one slice, which the call only reads
     Ok(unsafe { jolzerv_count_each(version == 2, body.as_ptr(), body.len()) })
+}
+
+/// The proved reader on lent memory, one event a call.
+pub fn lent(version: u8, body: &[u8]) -> io::Result<u64> {
+    // SAFETY: a pointer and a length of one slice, which the call only reads
+    Ok(unsafe { jolzerv_count_lent(version == 2, body.as_ptr(), body.len()) })
 }
 
 /// The proved reader, many events a call.

@@ -42,11 +42,19 @@ impl Best {
     }
 }
 
+const READERS: [&str; 4] = [
+    "libtw2 reader",
+    "many events a call",
+    "one event, lent",
+    "one event, by value",
+];
+const PROGRAMS: [&str; 2] = ["libtw2 replay", "replay"];
+
 pub struct Report {
     events: u64,
     bytes: u64,
     /// libtw2's first: the others are held to it.
-    pub readers: [Best; 3],
+    pub readers: [Best; 4],
     pub programs: [Best; 2],
 }
 
@@ -55,8 +63,8 @@ impl Report {
         Report {
             events,
             bytes,
-            readers: ["libtw2 reader", "many events a call", "one event a call"].map(Best::new),
-            programs: ["libtw2 replay", "replay"].map(Best::new),
+            readers: READERS.map(Best::new),
+            programs: PROGRAMS.map(Best::new),
         }
     }
     /// Whether all readers read the same number of events.
@@ -98,13 +106,10 @@ impl Report {
 
 /// How the time for a byte grows from size to size: 1.00 is linear.
 pub fn growth(sort: &str, reports: &[Report]) {
-    for (index, name) in ["libtw2 reader", "many events a call", "one event a call"]
-        .iter()
-        .enumerate()
-    {
+    for (index, name) in READERS.iter().enumerate() {
         print_growth(sort, name, reports, |r| r.readers[index].nanoseconds());
     }
-    for (index, name) in ["libtw2 replay", "replay"].iter().enumerate() {
+    for (index, name) in PROGRAMS.iter().enumerate() {
         print_growth(sort, name, reports, |r| r.programs[index].nanoseconds());
     }
 }
