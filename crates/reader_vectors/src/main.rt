@@ -1,12 +1,11 @@
 // Reads bodies with the reader by value and prints their lines, in the form of the replay program. Standard input holds inputs one behind
 // the other, each after its length in two bytes, the low one first: a version byte, then a body.
-ghost use Prim.Native.Nat.{_≤_};
-ghost use lib.ListN.{length};
 use item::Version;
 use item::VersionOf;
 use libc::STDOUT_FILENO;
 use lines::Ending;
 use packer::Part;
+use packer::PartRead;
 use refusal::Refusal;
 use state::Answer;
 use state::Event;
@@ -91,26 +90,16 @@ fn number(b: u8) -> i32 {
     b as i32
 }
 
-fn size(b: u8) -> usize
-    ensures { λ r. ⌜ r ≤ 255 ⌝ }
-{
-    b as usize
-}
-
 fn run(s: &[u8]) {
     let mut at: usize = 0;
-    while at < s.len() {
-        if s.len() - at < 2 {
+    let mut turns: usize = 0;
+    while turns < s.len() {
+        turns += 1;
+        let PartRead::Got { part, next } = cases::case_at(s, at, 2) else {
             return;
-        }
-        let start = at + 2;
-        let len = size(s[at]) + 256 * size(s[at + 1]);
-        if s.len() - start < len {
-            return;
-        }
-        let end = start + len;
-        run_case(&s[start..end]);
-        at = end;
+        };
+        run_case(packer::show(s, part));
+        at = next;
     }
 }
 

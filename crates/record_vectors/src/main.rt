@@ -8,525 +8,10 @@ use item::Tag;
 use item::Version;
 use libc::STDOUT_FILENO;
 use packer::Part;
+use packer::PartRead;
 use records::CallAnswer;
 use records::RecordCall;
 use refusal::Refusal;
-
-// The names of the 20 extensions, of the kinds and of UnknownEx, in 16 bytes each.
-const NAMES: [u8; 512] = [
-    b'A',
-    b'n',
-    b't',
-    b'i',
-    b'b',
-    b'o',
-    b't',
-    0,
-    0,
-    0,
-    0,
-    0,
-    0,
-    0,
-    0,
-    0,
-    b'A',
-    b'u',
-    b't',
-    b'h',
-    b'I',
-    b'n',
-    b'i',
-    b't',
-    0,
-    0,
-    0,
-    0,
-    0,
-    0,
-    0,
-    0,
-    b'A',
-    b'u',
-    b't',
-    b'h',
-    b'L',
-    b'o',
-    b'g',
-    b'i',
-    b'n',
-    0,
-    0,
-    0,
-    0,
-    0,
-    0,
-    0,
-    b'A',
-    b'u',
-    b't',
-    b'h',
-    b'L',
-    b'o',
-    b'g',
-    b'o',
-    b'u',
-    b't',
-    0,
-    0,
-    0,
-    0,
-    0,
-    0,
-    b'D',
-    b'd',
-    b'n',
-    b'e',
-    b't',
-    b'v',
-    b'e',
-    b'r',
-    0,
-    0,
-    0,
-    0,
-    0,
-    0,
-    0,
-    0,
-    b'D',
-    b'd',
-    b'n',
-    b'e',
-    b't',
-    b'v',
-    b'e',
-    b'r',
-    b'O',
-    b'l',
-    b'd',
-    0,
-    0,
-    0,
-    0,
-    0,
-    b'J',
-    b'o',
-    b'i',
-    b'n',
-    b'v',
-    b'e',
-    b'r',
-    b'6',
-    0,
-    0,
-    0,
-    0,
-    0,
-    0,
-    0,
-    0,
-    b'J',
-    b'o',
-    b'i',
-    b'n',
-    b'v',
-    b'e',
-    b'r',
-    b'7',
-    0,
-    0,
-    0,
-    0,
-    0,
-    0,
-    0,
-    0,
-    b'P',
-    b'l',
-    b'a',
-    b'y',
-    b'e',
-    b'r',
-    b'F',
-    b'i',
-    b'n',
-    b'i',
-    b's',
-    b'h',
-    0,
-    0,
-    0,
-    0,
-    b'P',
-    b'l',
-    b'a',
-    b'y',
-    b'e',
-    b'r',
-    b'N',
-    b'a',
-    b'm',
-    b'e',
-    0,
-    0,
-    0,
-    0,
-    0,
-    0,
-    b'P',
-    b'l',
-    b'a',
-    b'y',
-    b'e',
-    b'r',
-    b'R',
-    b'e',
-    b'a',
-    b'd',
-    b'y',
-    0,
-    0,
-    0,
-    0,
-    0,
-    b'P',
-    b'l',
-    b'a',
-    b'y',
-    b'e',
-    b'r',
-    b'R',
-    b'e',
-    b'j',
-    b'o',
-    b'i',
-    b'n',
-    0,
-    0,
-    0,
-    0,
-    b'P',
-    b'l',
-    b'a',
-    b'y',
-    b'e',
-    b'r',
-    b'S',
-    b'w',
-    b'a',
-    b'p',
-    0,
-    0,
-    0,
-    0,
-    0,
-    0,
-    b'P',
-    b'l',
-    b'a',
-    b'y',
-    b'e',
-    b'r',
-    b'T',
-    b'e',
-    b'a',
-    b'm',
-    0,
-    0,
-    0,
-    0,
-    0,
-    0,
-    b'T',
-    b'e',
-    b'a',
-    b'm',
-    b'F',
-    b'i',
-    b'n',
-    b'i',
-    b's',
-    b'h',
-    0,
-    0,
-    0,
-    0,
-    0,
-    0,
-    b'T',
-    b'e',
-    b'a',
-    b'm',
-    b'L',
-    b'o',
-    b'a',
-    b'd',
-    b'F',
-    b'a',
-    b'i',
-    b'l',
-    b'u',
-    b'r',
-    b'e',
-    0,
-    b'T',
-    b'e',
-    b'a',
-    b'm',
-    b'L',
-    b'o',
-    b'a',
-    b'd',
-    b'S',
-    b'u',
-    b'c',
-    b'c',
-    b'e',
-    b's',
-    b's',
-    0,
-    b'T',
-    b'e',
-    b'a',
-    b'm',
-    b'P',
-    b'r',
-    b'a',
-    b'c',
-    b't',
-    b'i',
-    b'c',
-    b'e',
-    0,
-    0,
-    0,
-    0,
-    b'T',
-    b'e',
-    b'a',
-    b'm',
-    b'S',
-    b'a',
-    b'v',
-    b'e',
-    b'F',
-    b'a',
-    b'i',
-    b'l',
-    b'u',
-    b'r',
-    b'e',
-    0,
-    b'T',
-    b'e',
-    b'a',
-    b'm',
-    b'S',
-    b'a',
-    b'v',
-    b'e',
-    b'S',
-    b'u',
-    b'c',
-    b'c',
-    b'e',
-    b's',
-    b's',
-    0,
-    b'P',
-    b'l',
-    b'a',
-    b'y',
-    b'e',
-    b'r',
-    b'D',
-    b'i',
-    b'f',
-    b'f',
-    0,
-    0,
-    0,
-    0,
-    0,
-    0,
-    b'F',
-    b'i',
-    b'n',
-    b'i',
-    b's',
-    b'h',
-    0,
-    0,
-    0,
-    0,
-    0,
-    0,
-    0,
-    0,
-    0,
-    0,
-    b'T',
-    b'i',
-    b'c',
-    b'k',
-    b'S',
-    b'k',
-    b'i',
-    b'p',
-    0,
-    0,
-    0,
-    0,
-    0,
-    0,
-    0,
-    0,
-    b'P',
-    b'l',
-    b'a',
-    b'y',
-    b'e',
-    b'r',
-    b'N',
-    b'e',
-    b'w',
-    0,
-    0,
-    0,
-    0,
-    0,
-    0,
-    0,
-    b'P',
-    b'l',
-    b'a',
-    b'y',
-    b'e',
-    b'r',
-    b'O',
-    b'l',
-    b'd',
-    0,
-    0,
-    0,
-    0,
-    0,
-    0,
-    0,
-    b'I',
-    b'n',
-    b'p',
-    b'u',
-    b't',
-    b'D',
-    b'i',
-    b'f',
-    b'f',
-    0,
-    0,
-    0,
-    0,
-    0,
-    0,
-    0,
-    b'I',
-    b'n',
-    b'p',
-    b'u',
-    b't',
-    b'N',
-    b'e',
-    b'w',
-    0,
-    0,
-    0,
-    0,
-    0,
-    0,
-    0,
-    0,
-    b'M',
-    b'e',
-    b's',
-    b's',
-    b'a',
-    b'g',
-    b'e',
-    0,
-    0,
-    0,
-    0,
-    0,
-    0,
-    0,
-    0,
-    0,
-    b'J',
-    b'o',
-    b'i',
-    b'n',
-    0,
-    0,
-    0,
-    0,
-    0,
-    0,
-    0,
-    0,
-    0,
-    0,
-    0,
-    0,
-    b'D',
-    b'r',
-    b'o',
-    b'p',
-    0,
-    0,
-    0,
-    0,
-    0,
-    0,
-    0,
-    0,
-    0,
-    0,
-    0,
-    0,
-    b'C',
-    b'o',
-    b'n',
-    b's',
-    b'o',
-    b'l',
-    b'e',
-    b'C',
-    b'o',
-    b'm',
-    b'm',
-    b'a',
-    b'n',
-    b'd',
-    0,
-    0,
-    b'U',
-    b'n',
-    b'k',
-    b'n',
-    b'o',
-    b'w',
-    b'n',
-    b'E',
-    b'x',
-    0,
-    0,
-    0,
-    0,
-    0,
-    0,
-    0,
-];
 
 // What is printed of each: 1 the kind's client, 2 a number, 4 an identifier, 8 another number, 16 a part, 32 ten numbers, 64 arguments.
 const FIELDS: [u8; 32] = [
@@ -598,29 +83,57 @@ fn row_of(tag: Tag) -> usize
     }
 }
 
-fn print_name(row: usize)
-    requires { ⌜ row < 32 ⌝ }
-{
-    let mut i: usize = 0;
-    while i < 16 {
-        let b = NAMES[16 * row + i];
-        if b != 0 {
-            let one = [b];
-            io::write_all(STDOUT_FILENO, &one);
-        }
-        i += 1;
+fn say(text: &[u8]) {
+    io::write_all(STDOUT_FILENO, text);
+}
+
+// The 20 extensions, the kinds, UnknownEx.
+fn print_name(row: usize) {
+    match row {
+        0 => say(b"Antibot"),
+        1 => say(b"AuthInit"),
+        2 => say(b"AuthLogin"),
+        3 => say(b"AuthLogout"),
+        4 => say(b"Ddnetver"),
+        5 => say(b"DdnetverOld"),
+        6 => say(b"Joinver6"),
+        7 => say(b"Joinver7"),
+        8 => say(b"PlayerFinish"),
+        9 => say(b"PlayerName"),
+        10 => say(b"PlayerReady"),
+        11 => say(b"PlayerRejoin"),
+        12 => say(b"PlayerSwap"),
+        13 => say(b"PlayerTeam"),
+        14 => say(b"TeamFinish"),
+        15 => say(b"TeamLoadFailure"),
+        16 => say(b"TeamLoadSuccess"),
+        17 => say(b"TeamPractice"),
+        18 => say(b"TeamSaveFailure"),
+        19 => say(b"TeamSaveSuccess"),
+        20 => say(b"PlayerDiff"),
+        21 => say(b"Finish"),
+        22 => say(b"TickSkip"),
+        23 => say(b"PlayerNew"),
+        24 => say(b"PlayerOld"),
+        25 => say(b"InputDiff"),
+        26 => say(b"InputNew"),
+        27 => say(b"Message"),
+        28 => say(b"Join"),
+        29 => say(b"Drop"),
+        30 => say(b"ConsoleCommand"),
+        _ => say(b"UnknownEx"),
     }
 }
 
 fn print_unsigned(n: u32) {
-    io::write_all(STDOUT_FILENO, b" ");
+    say(b" ");
     io::print_decimal(STDOUT_FILENO, n as u64);
 }
 
 fn print_signed(value: i32) {
-    io::write_all(STDOUT_FILENO, b" ");
+    say(b" ");
     if value < 0 {
-        io::write_all(STDOUT_FILENO, b"-");
+        say(b"-");
         io::print_decimal(STDOUT_FILENO, 4294967296 - num::bits(value) as u64);
         return;
     }
@@ -631,15 +144,11 @@ fn wide(b: u8) -> u64 {
     b as u64
 }
 
-fn size(b: u8) -> usize {
-    b as usize
-}
-
 // Bytes as lowercase hex digits; `-` for none.
 fn print_bytes(b: &[u8]) {
-    io::write_all(STDOUT_FILENO, b" ");
+    say(b" ");
     if b.len() == 0 {
-        io::write_all(STDOUT_FILENO, b"-");
+        say(b"-");
     }
     let mut i: usize = 0;
     while i < b.len() {
@@ -657,7 +166,7 @@ fn print_ten(input: [i32; 10]) {
 }
 
 fn print_args(w: &[u8], count: usize, parts: [Part; 16]) {
-    io::write_all(STDOUT_FILENO, b" ");
+    say(b" ");
     io::print_decimal(STDOUT_FILENO, count as u64);
     let mut k: usize = 0;
     while k < count {
@@ -705,7 +214,7 @@ fn print_record(w: &[u8], used: usize, call: RecordCall) {
     let row = row_of(tag);
     let fields = FIELDS[row];
     io::print_decimal(STDOUT_FILENO, used as u64);
-    io::write_all(STDOUT_FILENO, b" ");
+    say(b" ");
     print_name(row);
     if let Tag::Plain(kind) = tag {
         print_client(kind);
@@ -741,7 +250,7 @@ fn print_record(w: &[u8], used: usize, call: RecordCall) {
 }
 
 fn print_refusal(r: Refusal) {
-    io::write_all(STDOUT_FILENO, b"refused ");
+    say(b"refused ");
     io::print_decimal(STDOUT_FILENO, r.number() as u64);
     if let Refusal::UnknownType(kind) = r {
         print_signed(kind);
@@ -752,12 +261,10 @@ fn print_call(w: &[u8], call: RecordCall) {
     let answer = call.answer;
     match answer {
         CallAnswer::Got(used) => print_record(w, used, call),
-        CallAnswer::More => {
-            io::write_all(STDOUT_FILENO, b"runs out");
-        }
+        CallAnswer::More => say(b"runs out"),
         CallAnswer::Refused(r) => print_refusal(r),
     }
-    io::write_all(STDOUT_FILENO, b"\n");
+    say(b"\n");
 }
 
 // Whether the call with the flag on says what it should beside the one with the flag off.
@@ -792,25 +299,24 @@ fn run_case(version: Version, w: &[u8]) {
     let b = on.answer;
     print_call(w, off);
     if !flag_agrees(a, b) {
-        io::write_all(STDOUT_FILENO, b"the flag changes the answer\n");
+        say(b"the flag changes the answer\n");
     }
 }
 
 fn run(s: &[u8]) {
     let mut at: usize = 0;
-    while at < s.len() {
-        if s.len() - at < 2 {
+    let mut turns: usize = 0;
+    while turns < s.len() {
+        turns += 1;
+        if s.len() <= at {
             return;
         }
         let version = version_of(s[at]);
-        let start = at + 2;
-        let len = size(s[at + 1]);
-        if s.len() - start < len {
+        let PartRead::Got { part, next } = cases::case_at(s, at + 1, 1) else {
             return;
-        }
-        let end = start + len;
-        run_case(version, &s[start..end]);
-        at = end;
+        };
+        run_case(version, packer::show(s, part));
+        at = next;
     }
 }
 

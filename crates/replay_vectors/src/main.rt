@@ -1,13 +1,14 @@
 // Replays bodies by turns, with room for a few events only, and prints their lines. Standard input holds inputs one behind the other, each
 // after its length in three bytes, the low one first: a version byte, then a body.
 ghost use mathlib.Core.Path.{_≡_};
-ghost use Prim.Native.Nat.{_-_, _≤_};
+ghost use Prim.Native.Nat.{_-_};
 ghost use lib.ListN.{length};
 use item::Version;
 use item::VersionOf;
 use libc::STDOUT_FILENO;
 use lines::Ending;
 use packer::Part;
+use packer::PartRead;
 use refusal::Refusal;
 use state::Reader;
 use varint::Wrote;
@@ -84,26 +85,16 @@ fn run_case(input: &[u8]) {
     }
 }
 
-fn size(b: u8) -> usize
-    ensures { λ r. ⌜ r ≤ 255 ⌝ }
-{
-    b as usize
-}
-
 fn run(s: &[u8]) {
     let mut at: usize = 0;
-    while at < s.len() {
-        if s.len() - at < 3 {
+    let mut turns: usize = 0;
+    while turns < s.len() {
+        turns += 1;
+        let PartRead::Got { part, next } = cases::case_at(s, at, 3) else {
             return;
-        }
-        let start = at + 3;
-        let len = size(s[at]) + 256 * size(s[at + 1]) + 65536 * size(s[at + 2]);
-        if s.len() - start < len {
-            return;
-        }
-        let end = start + len;
-        run_case(&s[start..end]);
-        at = end;
+        };
+        run_case(packer::show(s, part));
+        at = next;
     }
 }
 

@@ -1,8 +1,6 @@
 // Demand 3 seen running. Each body is read to its end; then the board is stepped back over its events, last first, to the empty board.
 // Every board on the way is compared with the one that reading had there. The events are printed as they are taken off, and `empty` at
 // the end. Standard input is as that of reader_vectors.
-ghost use Prim.Native.Nat.{_≤_};
-ghost use lib.ListN.{length};
 use back::BackAnswer;
 use back::Board;
 use back::BoardTick;
@@ -10,6 +8,7 @@ use item::Version;
 use item::VersionOf;
 use libc::STDOUT_FILENO;
 use packer::Part;
+use packer::PartRead;
 use reader::ReadAnswer;
 use state::Answer;
 use state::Event;
@@ -136,41 +135,9 @@ fn same_tick(a: BoardTick, b: BoardTick) -> bool {
 fn same_board(a: Board, b: Board) -> bool {
     let s = a.tick;
     let t = b.tick;
-    if !same_tick(s, t) {
-        return false;
-    }
     let e = a.entries;
     let f = b.entries;
-    let mut i: usize = 0;
-    while i < 128 {
-        if e.marks[i] != f.marks[i] {
-            return false;
-        }
-        if e.xs[i] != f.xs[i] {
-            return false;
-        }
-        if e.ys[i] != f.ys[i] {
-            return false;
-        }
-        if e.held[i] != f.held[i] {
-            return false;
-        }
-        i += 1;
-    }
-    let g = e.inputs;
-    let h = f.inputs;
-    same_inputs(g, h)
-}
-
-fn same_inputs(a: [i32; 1280], b: [i32; 1280]) -> bool {
-    let mut i: usize = 0;
-    while i < 1280 {
-        if a[i] != b[i] {
-            return false;
-        }
-        i += 1;
-    }
-    true
+    good::both(same_tick(s, t), alike::same_entries(e, f))
 }
 
 // One step back over the event of the call at a spot, which is to give the board there.
@@ -215,12 +182,6 @@ fn number(b: u8) -> i32 {
     b as i32
 }
 
-fn size(b: u8) -> usize
-    ensures { λ r. ⌜ r ≤ 255 ⌝ }
-{
-    b as usize
-}
-
 fn run_case(input: &[u8]) {
     if input.len() == 0 {
         return;
@@ -233,18 +194,14 @@ fn run_case(input: &[u8]) {
 
 fn run(s: &[u8]) {
     let mut at: usize = 0;
-    while at < s.len() {
-        if s.len() - at < 2 {
+    let mut turns: usize = 0;
+    while turns < s.len() {
+        turns += 1;
+        let PartRead::Got { part, next } = cases::case_at(s, at, 2) else {
             return;
-        }
-        let start = at + 2;
-        let len = size(s[at]) + 256 * size(s[at + 1]);
-        if s.len() - start < len {
-            return;
-        }
-        let end = start + len;
-        run_case(&s[start..end]);
-        at = end;
+        };
+        run_case(packer::show(s, part));
+        at = next;
     }
 }
 
