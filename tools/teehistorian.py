@@ -1,59 +1,49 @@
 """teehistorian.py REPLAY FILE: takes a .teehistorian file apart and feeds its body to the replay program REPLAY.
 
-The file is the magic of 16 bytes, a JSON header that ends with a byte 00, and the body. The header's "version", a string,
-says which version of the format the body has. Nothing else of the header is looked at.
+The file is the magic of 16 bytes, a JSON header that ends with a byte 00, and the body; unpack.py unpacks it where it is packed. The
+header's "version", a string, says which version of the format the body has. Nothing else of the header is looked at.
+Bytes are fed as they come and lines passed on as they come. tools/replay says what each status means.
 """
 
 import json
+import os
 import re
-import shutil
-import signal
 import subprocess
 import sys
+import threading
+
+from unpack import CHUNK, Unfit, at_least, chunks_of, recording, write_all
 
 MAGIC = bytes.fromhex("699db17b8efb34ffb1d8da6f60c15dd1")
-PACKED = [
-    (b"\x1f\x8b", "gzip"),
-    (b"\xfd7zXZ\x00", "xz"),
-    (b"\x28\xb5\x2f\xfd", "zstd"),
-    (b"BZh", "bzip2"),
-    (b"PK\x03\x04", "zip"),
-]
 # A header is some kilobytes; what has no 00 in this many bytes is no header.
 LONGEST_HEADER = 64 << 20
-CHUNK = 1 << 20
-
-
-class Unfit(Exception):
-    """What is wrong with a file."""
+LAST = [(b"finish", 0), (b"refused", 3), (b"too long", 4)]
+NO_LAST_LINE = 1
 
 
 def check_magic(start):
-    if start == MAGIC:
+    if start[: len(MAGIC)] == MAGIC:
         return
     if not start:
         raise Unfit("the file is empty")
-    for sign, name in PACKED:
-        if start.startswith(sign):
-            raise Unfit(f"the file is packed with {name}: unpack it first")
     if len(start) < len(MAGIC) and MAGIC.startswith(start):
         raise Unfit(f"the file ends after {len(start)} bytes, inside the magic of {len(MAGIC)}")
     raise Unfit("not a teehistorian file: it does not begin with the magic 699db17b-8efb-34ff-b1d8-da6f60c15dd1")
 
 
-def split_header(source):
-    """The header's bytes, and the bytes of the body that were read with them."""
+def split_header(chunks):
+    """The header's bytes, and the bytes of the body that came with them."""
+    start, chunks = at_least(len(MAGIC), chunks)
+    check_magic(start)
     header = bytearray()
-    while True:
-        chunk = source.read(CHUNK)
-        if not chunk:
-            raise Unfit("the file ends inside the JSON header: no byte 00 ends it")
-        end = chunk.find(0)
+    for data in chunks:
+        end = data.find(0, 0 if header else len(MAGIC))
         if end >= 0:
-            return bytes(header + chunk[:end]), chunk[end + 1 :]
-        header += chunk
+            return bytes(header + data[:end])[len(MAGIC) :], data[end + 1 :]
+        header += data
         if len(header) > LONGEST_HEADER:
             raise Unfit(f"no byte 00 ends the JSON header within {LONGEST_HEADER >> 20} MiB")
+    raise Unfit("the file ends inside the JSON header: no byte 00 ends it")
 
 
 def version_of(header):
@@ -80,41 +70,111 @@ def version_of(header):
     return int(number)
 
 
-def feed(replay, version, start, source):
-    """The replay program's output goes straight to standard output. It may end before it has read everything."""
-    program = subprocess.Popen([replay], stdin=subprocess.PIPE)
+class Feeder(threading.Thread):
+    """Writes the version byte and the body to the program, piece by piece. The program may end before it has read everything; what is
+    packed is then unpacked to its end all the same, since damage shows there."""
+
+    def __init__(self, pipe, start, chunks, packed):
+        super().__init__(daemon=True)
+        self.pipe, self.start_bytes, self.chunks, self.packed = pipe, start, chunks, packed
+        self.failure = None
+
+    def run(self):
+        try:
+            self.feed()
+        except (OSError, Unfit) as e:
+            self.failure = e
+        finally:
+            self.pipe.close()
+
+    def feed(self):
+        try:
+            write_all(self.pipe.fileno(), self.start_bytes)
+            for data in self.chunks:
+                write_all(self.pipe.fileno(), data)
+        except BrokenPipeError:
+            if self.packed:
+                for data in self.chunks:
+                    pass
+
+
+class Unwritten(Exception):
+    """Why a line could not be printed."""
+
+
+def print_text(text):
     try:
-        with program.stdin as pipe:
-            pipe.write(bytes([version]) + start)
-            shutil.copyfileobj(source, pipe, CHUNK)
+        write_all(1, text)
     except BrokenPipeError:
-        pass
+        raise
+    except OSError as e:
+        raise Unwritten(e.strerror) from e
+
+
+def may_be_last(line):
+    return any(line.startswith(word) or word.startswith(line) for word, status in LAST)
+
+
+def pass_lines(source):
+    """Passes lines on as they come, but for a last line, which is the answer."""
+    held = b""
+    while data := os.read(source, CHUNK):
+        text = held + data
+        cut = text.rfind(b"\n", 0, -1) + 1
+        held = text[cut:] if may_be_last(text[cut:]) else b""
+        print_text(text[: len(text) - len(held)])
+    return held
+
+
+def replay(program, feeder):
+    """The status; what is printed is the program's lines. A last line that says only that the bytes ended, where in truth they could not be
+    read on, is not printed."""
+    feeder.start()
+    last = pass_lines(program.stdout.fileno())
     status = program.wait()
-    # whoever reads the lines may stop early
-    if status == -signal.SIGPIPE:
-        return
+    if feeder.packed:
+        feeder.join()
+    if not (feeder.failure and last == b"refused 3\n"):
+        print_text(last)
+    if feeder.failure:
+        raise feeder.failure
     if status != 0:
         raise Unfit(f"the replay program ended with status {status}")
+    return next((n for word, n in LAST if last.startswith(word)), NO_LAST_LINE)
+
+
+def run(words, fd):
+    chunks, packed = recording(chunks_of(fd))
+    chunks = iter(chunks)
+    header, start = split_header(chunks)
+    version = version_of(header)
+    program = subprocess.Popen([words[0]], stdin=subprocess.PIPE, stdout=subprocess.PIPE, bufsize=0)
+    try:
+        feeder = Feeder(program.stdin, bytes([version]) + start, chunks, packed)
+        return replay(program, feeder)
+    except BrokenPipeError:
+        # whoever reads the lines may stop early
+        return NO_LAST_LINE
+    finally:
+        program.kill()
+        program.wait()
 
 
 def main(words):
     if len(words) != 2 or words[1] in ("-h", "--help"):
         print("usage: tools/replay FILE    (- for standard input)", file=sys.stderr)
         return 2
-    replay, name = words
     try:
-        source = sys.stdin.buffer if name == "-" else open(name, "rb")
-        with source:
-            check_magic(source.read(len(MAGIC)))
-            header, start = split_header(source)
-            feed(replay, version_of(header), start, source)
+        return run(words, 0 if words[1] == "-" else os.open(words[1], os.O_RDONLY))
     except OSError as e:
-        print(f"replay: {name}: {e.strerror}", file=sys.stderr)
-        return 1
+        print(f"replay: {words[1]}: {e.strerror}", file=sys.stderr)
     except Unfit as e:
-        print(f"replay: {name}: {e}", file=sys.stderr)
-        return 1
-    return 0
+        print(f"replay: {words[1]}: {e}", file=sys.stderr)
+    except Unwritten as e:
+        print(f"replay: standard output: {e}", file=sys.stderr)
+    except KeyboardInterrupt:
+        return 130
+    return NO_LAST_LINE
 
 
 if __name__ == "__main__":

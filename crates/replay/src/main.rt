@@ -1,7 +1,9 @@
-// The replay program: standard input is a version byte, 01 or 02, and a body; a line is printed for each event, and a last line.
+// The replay program: standard input is a version byte, 01 or 02, and a body; a line is printed for each event, and a last line. Lines come
+// as the bytes come: what is at hand is replayed before more is read.
 ghost use mathlib.Core.Path.{_≡_};
-ghost use Prim.Native.Nat.{_-_, _≤_, _<_};
+ghost use Prim.Native.Nat.{_<_};
 ghost use lib.ListN.{length};
+use feed::Hand;
 use item::Version;
 use item::VersionOf;
 use libc::STDERR_FILENO;
@@ -13,102 +15,32 @@ use refusal::Refusal;
 use state::Reader;
 use varint::Wrote;
 
-const FULL: usize = 65536;
-
-// The bytes at hand: those of the buffer from a place to an end; whether more may come; whether a read has failed.
-struct Hand {
-    at: usize,
-    end: usize,
-    open: bool,
-    failed: bool,
-}
-
-// What a turn leaves to the next, and whether there is a next.
+// What a turn leaves to the next: whether there is a next, and whether it wants more bytes.
 struct Left {
     reader: Reader,
     hand: Hand,
     goes: bool,
+    wants: bool,
 }
 
-fn failed() -> Hand {
-    Hand {
-        at: 0,
-        end: 0,
-        open: false,
-        failed: true,
-    }
+// What is at hand after a read, and whether the read failed.
+struct Fed {
+    hand: Hand,
+    failed: bool,
 }
 
-fn bytes_to(end: usize, open: bool) -> Hand {
-    Hand {
-        at: 0,
-        end,
-        open,
-        failed: false,
-    }
-}
-
-// Reads until the buffer is full, the input ends or a read fails.
-fn fill(buf: &mut [u8], from: usize) -> Hand
-    requires { ⌜ from ≤ length (now buf) ⌝ }
-{
-    let mut end = from;
-    while end < buf.len() {
-        let got = libc::read(STDIN_FILENO, &mut buf[end..]);
-        if got < 0 {
-            return failed();
-        }
-        let more = io::count(got, &buf[end..]);
-        if more == 0 {
-            return bytes_to(end, false);
-        }
-        end += more;
-    }
-    bytes_to(end, true)
-}
-
-// Moves the bytes from a place to an end to the front of the buffer: how many they are.
-fn shift(buf: &mut [u8], at: usize, end: usize) -> usize
-    requires { ⌜ (at ≤ end) × (end ≤ length (now buf)) ⌝ }
-    ensures { λ r. ⌜ r ≤ length (now (buf .entry)) ⌝ }
-{
-    let n = end - at;
-    let mut i = 0;
-    while i < n {
-        buf[i] = buf[at + i];
-        i += 1;
-    }
-    n
-}
-
-// A full window at least, unless the input has ended.
-fn at_hand(buf: &mut [u8], hand: Hand) -> Hand {
-    let at = hand.at;
-    let end = hand.end;
-    if !hand.open {
-        return hand;
-    }
-    if end < at {
-        return failed();
-    }
-    if buf.len() < end {
-        return failed();
-    }
-    if FULL <= end - at {
-        return hand;
-    }
-    let n = shift(buf, at, end);
-    fill(buf, n)
+fn say(text: &[u8]) {
+    io::write_all(STDERR_FILENO, text);
 }
 
 // The first n bytes: whether they were written.
 fn print(text: &[u8], n: usize) -> bool {
     let start = Part { at: 0, len: n };
-    io::write_all(STDOUT_FILENO, packer::show(text, start))
-}
-
-fn print_failed() {
-    io::write_all(STDERR_FILENO, b"replay: a read failed\n");
+    if io::write_all(STDOUT_FILENO, packer::show(text, start)) {
+        return true;
+    }
+    say(b"replay: a write failed\n");
+    false
 }
 
 // Whether another turn follows one whose text is printed.
@@ -119,60 +51,57 @@ fn goes_on(text: &[u8], filled: usize, ended: bool) -> bool {
     false
 }
 
-fn difference(a: usize, b: usize) -> usize
-    ensures { λ r. ⌜ r ≡ a - b ⌝ }
-{
-    if a < b {
-        return 0;
+// One read, behind the bytes at hand.
+fn read_on(buf: &mut [u8], hand: Hand) -> Fed {
+    let n = feed::keep(buf, hand);
+    let got = libc::read(STDIN_FILENO, &mut buf[n..]);
+    if got < 0 {
+        say(b"replay: a read failed\n");
+        return Fed { hand, failed: true };
     }
-    a - b
-}
-
-// At most the end.
-fn place(at: usize, used: usize, end: usize) -> usize {
-    if used < difference(end, at) {
-        return at + used;
+    let more = io::count(got, &buf[n..]);
+    Fed {
+        hand: feed::grow(buf.len(), n, more),
+        failed: false,
     }
-    end
 }
 
 // A turn on the bytes at hand, and its text.
-fn one_turn(
-    left: Left,
-    buf: &mut [u8],
-    rows: &mut [i32],
-    tens: &mut [i32],
-    out: &mut [u8],
-) -> Left {
+fn one_turn(left: Left, buf: &[u8], rows: &mut [i32], tens: &mut [i32], out: &mut [u8]) -> Left {
     let reader = left.reader;
-    let before = left.hand;
-    let hand = at_hand(buf, before);
-    if hand.failed {
-        print_failed();
-        return Left {
-            reader,
-            hand,
-            goes: false,
-        };
-    }
-    let at = hand.at;
-    let end = hand.end;
-    let bytes = Part {
-        at,
-        len: difference(end, at),
-    };
-    let turned = replayer::turn(reader, packer::show(buf, bytes), rows, tens, out);
+    let hand = left.hand;
+    let turned = replayer::turn(reader, feed::window(buf, hand), hand.ended, rows, tens, out);
     let next = turned.reader;
     Left {
         reader: next,
-        hand: Hand {
-            at: place(at, turned.used, end),
-            end,
-            open: hand.open,
-            failed: false,
-        },
+        hand: feed::pass(hand, turned.used),
         goes: goes_on(out, turned.filled, turned.ended),
+        wants: turned.wants,
     }
+}
+
+fn after_read(reader: Reader, fed: Fed) -> Left {
+    let hand = fed.hand;
+    Left {
+        reader,
+        hand,
+        goes: !fed.failed,
+        wants: false,
+    }
+}
+
+// A read, where more bytes are wanted.
+fn with_read(left: Left, buf: &mut [u8]) -> Left {
+    if good::both(left.goes, left.wants) {
+        let reader = left.reader;
+        return after_read(reader, read_on(buf, left.hand));
+    }
+    left
+}
+
+// A turn, and a read where it wants more bytes.
+fn round(left: Left, buf: &mut [u8], rows: &mut [i32], tens: &mut [i32], out: &mut [u8]) -> Left {
+    with_read(one_turn(left, buf, rows, tens, out), buf)
 }
 
 // The turns that may follow.
@@ -186,12 +115,12 @@ fn fewer(turns: u64, goes: bool) -> u64
     0
 }
 
-// Turns until one is the last. Each gives an event or the last line; their number is there to bound them.
+// Turns until one is the last. Each gives an event, the last line or a read; their number is there to bound them.
 fn replay(first: Left, buf: &mut [u8], rows: &mut [i32], tens: &mut [i32], out: &mut [u8]) {
     let mut left = first;
     let mut turns: u64 = 18446744073709551615;
     while 0 < turns {
-        left = one_turn(left, buf, rows, tens, out);
+        left = round(left, buf, rows, tens, out);
         turns = fewer(turns, left.goes);
     }
 }
@@ -209,47 +138,45 @@ fn number(b: u8) -> i32 {
 }
 
 // The first turn of a body behind a version byte.
-fn first_turn(version: Version, end: usize, open: bool) -> Left {
+fn first_turn(version: Version, hand: Hand) -> Left {
     Left {
         reader: Reader::empty(version),
-        hand: Hand {
-            at: 1,
-            end,
-            open,
-            failed: false,
-        },
+        hand: feed::pass(hand, 1),
         goes: true,
+        wants: false,
+    }
+}
+
+// The input from its version byte on.
+fn start(hand: Hand, buf: &mut [u8], rows: &mut [i32], tens: &mut [i32], out: &mut [u8]) {
+    if buf.len() == 0 {
+        return;
+    }
+    match item::version_of(number(buf[0])) {
+        VersionOf::Is(version) => replay(first_turn(version, hand), buf, rows, tens, out),
+        VersionOf::Refused(r) => refuse(r),
     }
 }
 
 // The whole of the input.
 fn run(buf: &mut [u8], rows: &mut [i32], tens: &mut [i32], out: &mut [u8]) {
-    let hand = fill(buf, 0);
-    if hand.failed {
-        print_failed();
+    let fed = read_on(buf, Hand::empty());
+    let hand = fed.hand;
+    if fed.failed {
         return;
     }
-    let end = hand.end;
-    if end == 0 {
+    if hand.ended {
         refuse(Refusal::UnknownVersion);
         return;
     }
-    if buf.len() == 0 {
-        return;
-    }
-    match item::version_of(number(buf[0])) {
-        VersionOf::Is(version) => {
-            replay(first_turn(version, end, hand.open), buf, rows, tens, out)
-        }
-        VersionOf::Refused(r) => refuse(r),
-    }
+    start(hand, buf, rows, tens, out);
 }
 
 // The arrays that main lends.
-fn buffer() -> [u8; 1048576]
-    ensures { λ r. ⌜ 1048576 ≡ length r ⌝ }
+fn buffer() -> [u8; 131072]
+    ensures { λ r. ⌜ 131072 ≡ length r ⌝ }
 {
-    [0; 1048576]
+    [0; 131072]
 }
 
 fn row_space() -> [i32; 32768]

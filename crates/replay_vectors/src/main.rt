@@ -3,6 +3,7 @@
 ghost use mathlib.Core.Path.{_≡_};
 ghost use Prim.Native.Nat.{_-_};
 ghost use lib.ListN.{length};
+use feed::Hand;
 use item::Version;
 use item::VersionOf;
 use libc::STDOUT_FILENO;
@@ -28,34 +29,77 @@ fn difference(a: usize, b: usize) -> usize
     a - b
 }
 
-// At most the end.
-fn place(at: usize, used: usize, end: usize) -> usize {
-    if used < difference(end, at) {
-        return at + used;
+// What is at hand of a body of a length after more of it was wanted: as much again and a byte, then its end.
+fn come(hand: Hand, wants: bool, len: usize) -> Hand {
+    if !wants {
+        return hand;
     }
-    end
+    let at = hand.at;
+    let end = hand.end;
+    let again = difference(end, at);
+    if len <= end {
+        return Hand {
+            at,
+            end,
+            ended: true,
+        };
+    }
+    if len - end <= again {
+        return Hand {
+            at,
+            end: len,
+            ended: false,
+        };
+    }
+    Hand {
+        at,
+        end: end + again + 1,
+        ended: false,
+    }
 }
 
-// All of the body from its place on is at hand. A turn gives an event or ends; a call uses a byte or answers an event of a pending kind, of
-// which there are at most two for a byte.
+// What a turn leaves, and whether it was the last.
+struct Left {
+    reader: Reader,
+    hand: Hand,
+    ended: bool,
+}
+
+fn one_turn(left: Left, body: &[u8], rows: &mut [i32], tens: &mut [i32], out: &mut [u8]) -> Left {
+    let reader = left.reader;
+    let hand = left.hand;
+    let turned = replayer::turn(
+        reader,
+        feed::window(body, hand),
+        hand.ended,
+        rows,
+        tens,
+        out,
+    );
+    print(out, turned.filled);
+    let next = turned.reader;
+    Left {
+        reader: next,
+        hand: come(feed::pass(hand, turned.used), turned.wants, body.len()),
+        ended: turned.ended,
+    }
+}
+
+// The body comes in pieces, a piece where a turn wants more. A turn gives an event or wants a piece, or ends; a call uses a byte or answers an
+// event of a pending kind, of which there are at most two for a byte.
 fn replay(version: Version, body: &[u8], rows: &mut [i32], tens: &mut [i32], out: &mut [u8]) {
-    let mut reader = Reader::empty(version);
-    let mut at: usize = 0;
+    let mut left = Left {
+        reader: Reader::empty(version),
+        hand: Hand::empty(),
+        ended: false,
+    };
     let mut turns: usize = 0;
     while turns < 400000 {
         turns += 1;
-        let rest = Part {
-            at,
-            len: difference(body.len(), at),
-        };
-        let turned = replayer::turn(reader, packer::show(body, rest), rows, tens, out);
-        print(out, turned.filled);
-        if turned.ended {
+        left = one_turn(left, body, rows, tens, out);
+        if left.ended {
             return;
         }
-        at = place(at, turned.used, body.len());
-        let next = turned.reader;
-        reader = next;
     }
 }
 

@@ -1,6 +1,7 @@
 -- So many calls are enough for a body. Assumes nothing.
 use Prim.Native.Nat.{ℕ, zero, suc, _+_, _*_, _≤_, _<_}
 use mathlib.Core.Path.{_≡_, refl, sym, _∙_, ap}
+use mathlib.Core.Bool.{true}
 use mathlib.Core.List.{List, _++_}
 use native.Mathlib.Omega.{arith}
 use lib.ListN.{length, drop, length-take, length-drop}
@@ -27,12 +28,12 @@ unfolding replayFrom
 stable zero k r body h = absurd (omega arith)
 stable (suc c) k r body h =
     let q : suc c + k ≡ suc (c + k) = omega arith in
-    let t = readCall r (windowOf body) (isLast body) in
+    let t = readCall r (windowOf body) (isLast true body) in
     rw q
     (same-next (t .said) (t .memory .input) (λ n. replayFrom (c + k) (readerAfter t) (drop n body)) (λ n. replayFrom c (readerAfter t) (drop n body))
     (λ e n s.
-    let f : rank (t .scalars) + 1 ≤ rank (r .scalars) + 5 * n = rw s at (call-falls r (windowOf body) (isLast body)) in
-    let u = uses-within r (windowOf body) (isLast body) e n s in
+    let f : rank (t .scalars) + 1 ≤ rank (r .scalars) + 5 * n = rw s at (call-falls r (windowOf body) (isLast true body)) in
+    let u = uses-within r (windowOf body) (isLast true body) e n s in
     let l = length-take full body in
     let d = length-drop n body in
     stable c k (readerAfter t) (drop n body) (omega arith)))
@@ -41,8 +42,8 @@ pub enough-calls : EnoughCalls
 enough-calls r body k = stable (enough body) k r body (omega (arith, rank-le (r .scalars)))
 
 pub turns-print-text : TurnsPrintText
-turns-print-text v ns body h =
+turns-print-text v ts body h =
     let r = emptyReader v in
-    let a = turns-replay ns r body h in
+    let a = turns-replay ts r body h in
     let e : a .calls + suc (enough body) ≡ enough body + (a .calls + 1) = omega arith in
     sym (a .same (enough body)) ∙ ap (λ (n : ℕ). replayFrom n r body) e ∙ enough-calls r body (a .calls + 1)

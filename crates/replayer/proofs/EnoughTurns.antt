@@ -1,18 +1,18 @@
 -- Enough turns end the replay. Assumes nothing.
 use Prim.Native.Nat.{ℕ, zero, suc, _+_, _*_, _-_, _≤_, _<_}
-use mathlib.Core.Path.{_≡_, refl, ap}
-use mathlib.Core.Bool.{Bool, true, false}
+use mathlib.Core.Path.{_≡_, refl, sym, ap}
+use mathlib.Core.Bool.{Bool, true, false, cond, false≢true}
 use mathlib.Core.List.{List, [], _∷_}
 use native.Mathlib.Omega.{arith}
-use lib.ListN.{length, drop, length-take, length-drop}
+use lib.ListN.{length, take, drop, length-take, length-drop}
 use Rattle.num.proofs.Cases.{by-bool}
 use Rattle.item.specs.Said.{Said, gives, more, finish, refuses}
 use Rattle.state.specs.Reading.{Event, readCall, readerAfter}
 use Rattle.state.specs.declared.Reader.{Reader}
 use Rattle.many.specs.Many.{Seen, Halt, isFull, wantsMore, finishes, isRefused, Run, seenBy, before, onSaid, calls}
-use Rattle.replayer.specs.Replay.{full, windowOf, isLast, ends, turnRun}
-use Rattle.replayer.specs.Laws.{over, turnsEnd, EnoughTurns}
-use Rattle.replayer.proofs.Longer.{more-leaves, uses-within}
+use Rattle.replayer.specs.Replay.{full, windowOf, isShort, isLast, ends}
+use Rattle.replayer.specs.Laws.{Arrived, some, all, atHand, hasEnded, Turn, runOf, short, over, turnsEnd, haveAll, EnoughTurns}
+use Rattle.replayer.proofs.Longer.{more-leaves, more-not-last, uses-within}
 use Rattle.replayer.proofs.Enough.{rank, rank-le, call-falls}
 
 -- what is left falls with each event, where the calls stop for want of room or bytes
@@ -53,61 +53,89 @@ run-falls (suc n) r w last =
     an-event (run .halt) (rank (r .scalars)) (rank (t .scalars)) (length w) m (seenBy r t e m) run f u refl (length (drop m w))
     (omega (arith, length-drop m w)) (run-falls n (readerAfter t) (drop m w) last))
 
--- a turn that does not end the replay gives an event
-some-event : (a : Said Event) (x : Event → ℕ → Seen) (next : Event → ℕ → Run) (left : Reader)
-    → over (onSaid a (λ e m. before (x e m) (next e m)) left) ≡ false → 1 ≤ length (onSaid a (λ e m. before (x e m) (next e m)) left .seen)
-some-event (gives e m) x next left h = omega arith
-some-event more x next left h = let z : _≡_ {A = ℕ} 0 1 = cc in absurd (omega arith)
-some-event (finish m) x next left h = let z : _≡_ {A = ℕ} 0 1 = cc in absurd (omega arith)
-some-event (refuses k vs) x next left h = let z : _≡_ {A = ℕ} 0 1 = cc in absurd (omega arith)
+-- so no more is left after a turn that does not end the replay
+left-after : (s : Bool) (h : Halt) (b size : ℕ) (run : Run) → ends s h (length (run .seen)) ≡ false → Left h b run size
+    → (rank (run .reader .scalars) + length (run .seen) ≤ b + 5 * run .used) × (run .used ≤ size)
+left-after s isFull b size run e l = l
+left-after s wantsMore b size run e l = l
+left-after s finishes b size run e l = absurd (false≢true (sym e))
+left-after s (isRefused k vs) b size run e l = absurd (false≢true (sym e))
 
-goes-on : (n : ℕ) (r : Reader) (w : List ℕ) (last : Bool) → over (calls (suc n) r w last) ≡ false → 1 ≤ length (calls (suc n) r w last .seen)
+-- how much is left
+abbrev M : Reader → List ℕ → ℕ
+M r body = 5 * length body + rank (r .scalars)
+
+hand-le : (a : Arrived) (body : List ℕ) → length (windowOf (atHand a body)) ≤ length body
+hand-le (some n) body = omega (arith, length-take full (take n body), length-take n body)
+hand-le all body = omega (arith, length-take full body)
+
+sum-le : (used left b c d seen : ℕ) → used ≤ left → c + seen ≤ b + 5 * used → d ≡ left - used → 5 * d + c + seen ≤ 5 * left + b
+sum-le used left b c d seen u f e = omega arith
+
+falls-by-events : (t : Turn) (r : Reader) (body : List ℕ) → over t r body ≡ false
+    → let run = runOf t r body in M (run .reader) (drop (run .used) body) + length (run .seen) ≤ M r body
+falls-by-events t r body o =
+    let run = runOf t r body in
+    let w = windowOf (atHand (t .arrived) body) in
+    let p = left-after (short t body) (run .halt) (rank (r .scalars)) (length w) run o
+    (run-falls (suc (t .room)) r w (isLast (hasEnded (t .arrived)) (atHand (t .arrived) body))) in
+    sum-le (run .used) (length body) (rank (r .scalars)) (rank (run .reader .scalars)) (length (drop (run .used) body)) (length (run .seen))
+    (omega (arith, p .1, hand-le (t .arrived) body)) (p .0) (length-drop (run .used) body)
+
+-- ---- a turn that has all the bytes and does not end the replay gives an event
+
+some-event : (s : Bool) (a : Said Event) → (a ≡ more → s ≡ false) → (x : Event → ℕ → Seen) (next : Event → ℕ → Run) (left : Reader)
+    → ends s (onSaid a (λ e m. before (x e m) (next e m)) left .halt) (length (onSaid a (λ e m. before (x e m) (next e m)) left .seen)) ≡ false
+    → 1 ≤ length (onSaid a (λ e m. before (x e m) (next e m)) left .seen)
+some-event s (gives e m) f x next left h = omega arith
+some-event true more f x next left h = absurd (false≢true (sym (f refl)))
+some-event false more f x next left h = absurd (false≢true (sym h))
+some-event s (finish m) f x next left h = absurd (false≢true (sym h))
+some-event s (refuses k vs) f x next left h = absurd (false≢true (sym h))
+
+goes-on : (s : Bool) (n : ℕ) (r : Reader) (w : List ℕ) → ends s (calls (suc n) r w s .halt) (length (calls (suc n) r w s .seen)) ≡ false
+    → 1 ≤ length (calls (suc n) r w s .seen)
 unfolding calls
-goes-on n r w last h =
-    let t = readCall r w last in
-    some-event (t .said) (λ e m. seenBy r t e m) (λ e m. calls n (readerAfter t) (drop m w) last) (readerAfter t) h
+goes-on s n r w h =
+    let t = readCall r w s in
+    some-event s (t .said) (more-not-last r w s) (λ e m. seenBy r t e m) (λ e m. calls n (readerAfter t) (drop m w) s) (readerAfter t) h
 
-window-le : (body : List ℕ) → length (windowOf body) ≤ length body
-window-le body = omega (arith, length-take full body)
+-- one, if the turn has all the bytes
+abbrev one : Arrived → ℕ
+one (some n) = 0
+one all = 1
 
--- so less is left
-less : (h : Halt) (b size left : ℕ) (run : Run) → ends h (length (run .seen)) ≡ false → Left h b run size → size ≤ left → 1 ≤ length (run .seen)
-    → (run .used ≤ left) × (rank (run .reader .scalars) + 1 ≤ b + 5 * run .used)
-less isFull b size left run e l g s = (omega (arith, l .1), omega (arith, l .0))
-less wantsMore b size left run e l g s = (omega (arith, l .1), omega (arith, l .0))
-less finishes b size left run e l g s = let z : _≡_ {A = ℕ} 0 1 = cc in absurd (omega arith)
-less (isRefused k vs) b size left run e l g s = let z : _≡_ {A = ℕ} 0 1 = cc in absurd (omega arith)
+gives-one : (a : Arrived) (n : ℕ) (r : Reader) (body : List ℕ) → let t : Turn = record { room = n; arrived = a } in
+    over t r body ≡ false → one a ≤ length (runOf t r body .seen)
+gives-one (some k) n r body o = omega arith
+gives-one all n r body o = goes-on (isShort body) n r (windowOf body) o
 
-sum-less : (used left b c d : ℕ) → used ≤ left → c + 1 ≤ b + 5 * used → d ≡ left - used → 5 * d + c < 5 * left + b
-sum-less used left b c d u f e = omega arith
+falls-on : (t : Turn) (r : Reader) (body : List ℕ) → over t r body ≡ false
+    → let run = runOf t r body in M (run .reader) (drop (run .used) body) + one (t .arrived) ≤ M r body
+falls-on t r body o = omega (arith, falls-by-events t r body o, gives-one (t .arrived) (t .room) r body o)
 
-falls-on : (n : ℕ) (r : Reader) (body : List ℕ) → over (turnRun (suc n) r body) ≡ false
-    → 5 * length (drop (turnRun (suc n) r body .used) body) + rank (turnRun (suc n) r body .reader .scalars) < 5 * length body + rank (r .scalars)
-falls-on n r body t =
-    let run = turnRun (suc n) r body in
-    let p = less (run .halt) (rank (r .scalars)) (length (windowOf body)) (length body) run t (run-falls (suc n) r (windowOf body) (isLast body))
-    (window-le body) (goes-on n r (windowOf body) (isLast body) t) in
-    sum-less (run .used) (length body) (rank (r .scalars)) (rank (run .reader .scalars)) (length (drop (run .used) body)) (p .0) (p .1)
-    (length-drop (run .used) body)
+-- ---- turns
 
-one-less : (a b c : ℕ) → a < b → b < suc c → a < c
-one-less a b c h k = omega arith
-
-later : (n : ℕ) (ns : List ℕ) (r : Reader) (body : List ℕ) → over (turnRun (suc n) r body) ≡ false
-    → turnsEnd ns (turnRun (suc n) r body .reader) (drop (turnRun (suc n) r body .used) body) ≡ true → turnsEnd (n ∷ ns) r body ≡ true
+later : (t : Turn) (ts : List Turn) (r : Reader) (body : List ℕ) → over t r body ≡ false
+    → turnsEnd ts (runOf t r body .reader) (drop (runOf t r body .used) body) ≡ true → turnsEnd (t ∷ ts) r body ≡ true
 unfolding turnsEnd
-later n ns r body t h = rw t h
+later t ts r body o h = rw o h
 
-now : (n : ℕ) (ns : List ℕ) (r : Reader) (body : List ℕ) → over (turnRun (suc n) r body) ≡ true → turnsEnd (n ∷ ns) r body ≡ true
+now : (t : Turn) (ts : List Turn) (r : Reader) (body : List ℕ) → over t r body ≡ true → turnsEnd (t ∷ ts) r body ≡ true
 unfolding turnsEnd
-now n ns r body t = rw t
+now t ts r body o = rw o
 
-end : (ns : List ℕ) (r : Reader) (body : List ℕ) → 5 * length body + rank (r .scalars) < length ns → turnsEnd ns r body ≡ true
+one-fewer : (a : Arrived) (count before after : ℕ) → after + one a ≤ before → before < cond (hasEnded a) (suc count) count → after < count
+one-fewer (some n) count before after h l = omega arith
+one-fewer all count before after h l = omega arith
+
+end : (ts : List Turn) (r : Reader) (body : List ℕ) → M r body < haveAll ts → turnsEnd ts r body ≡ true
+unfolding haveAll
 end [] r body h = absurd (omega arith)
-end (n ∷ ns) r body h =
-    by-bool (over (turnRun (suc n) r body))
-    (now n ns r body)
-    (λ t. later n ns r body t (end ns _ _ (one-less _ _ (length ns) (falls-on n r body t) h)))
+end (t ∷ ts) r body h =
+    by-bool (over t r body)
+    (now t ts r body)
+    (λ o. later t ts r body o (end ts _ _ (one-fewer (t .arrived) (haveAll ts) _ _ (falls-on t r body o) h)))
 
 pub enough-turns : EnoughTurns
-enough-turns ns r body h = end ns r body (omega (arith, rank-le (r .scalars)))
+enough-turns ts r body h = end ts r body (omega (arith, rank-le (r .scalars)))

@@ -102,34 +102,38 @@ IsMore more = Unit {0}
 IsMore (finish n) = ⊥
 IsMore (refuses k vs) = ⊥
 
-told-more : (a : Said Event) (s : Scalars) (m : Memory) (last : Bool) (t : Step) → Told a s m last t → IsMore a → (t .scalars ≡ s) × (t .memory ≡ m)
+told-more : (a : Said Event) (s : Scalars) (m : Memory) (last : Bool) (t : Step) → Told a s m last t → IsMore a
+    → (last ≡ false) × ((t .scalars ≡ s) × (t .memory ≡ m))
 told-more (gives e n) s m last t h i = absurd i
-told-more more s m last t h i = h .1
+told-more more s m last t h i = h
 told-more (finish n) s m last t h i = absurd i
 told-more (refuses k vs) s m last t h i = absurd i
 
--- a step that keeps a reader where it says more, and uses at most the window
-abbrev Fair : Reader → List ℕ → Step → Type 0
-Fair r w t = (IsMore (t .said) → readerAfter t ≡ r) × (usedIn (t .said) ≤ length w)
+-- a step that says more only where the window is not the last, and keeps the reader there; it uses at most the window
+abbrev Fair : Reader → List ℕ → Bool → Step → Type 0
+Fair r w last t = (IsMore (t .said) → (last ≡ false) × (readerAfter t ≡ r)) × (usedIn (t .said) ≤ length w)
 
 same-reader : (r : Reader) (t : Step) → (t .scalars ≡ r .scalars) × (t .memory ≡ memoryOf (r .entries)) → readerAfter t ≡ r
 same-reader r t e =
     ap (λ (s : Scalars). record { scalars = s; entries = t .memory .entries }) (e .0)
     ∙ ap (λ (m : Memory). record { scalars = r .scalars; entries = m .entries }) (e .1)
 
-fair : (r : Reader) (w : List ℕ) (last : Bool) → Fair r w (readCall r w last)
+fair : (r : Reader) (w : List ℕ) (last : Bool) → Fair r w last (readCall r w last)
 unfolding readCall goodCall
 fair r w last =
     let k = open-call-keeps (r .scalars) (memoryOf (r .entries)) w last in
     let t = openCall (r .scalars) (memoryOf (r .entries)) w last in
-    by-cond (Fair r w) (goodReader r)
-    (λ _. by-cond (Fair r w) (r .scalars .closed)
+    by-cond (Fair r w last) (goodReader r)
+    (λ _. by-cond (Fair r w last) (r .scalars .closed)
     (λ _. ((λ i. absurd i), zero-le))
-    (λ _. ((λ i. same-reader r t (told-more (t .said) (r .scalars) (memoryOf (r .entries)) last t (k .told) i)), k .within)))
+    (λ _. ((λ i. let h = told-more (t .said) (r .scalars) (memoryOf (r .entries)) last t (k .told) i in (h .0, same-reader r t (h .1))), k .within)))
     (λ _. ((λ i. absurd i), zero-le))
 
 pub more-leaves : (r : Reader) (w : List ℕ) (last : Bool) → readCall r w last .said ≡ more → readerAfter (readCall r w last) ≡ r
-more-leaves r w last e = fair r w last .0 (rw e tt)
+more-leaves r w last e = fair r w last .0 (rw e tt) .1
+
+pub more-not-last : (r : Reader) (w : List ℕ) (last : Bool) → readCall r w last .said ≡ more → last ≡ false
+more-not-last r w last e = fair r w last .0 (rw e tt) .0
 
 pub uses-within : (r : Reader) (w : List ℕ) (last : Bool) (e : Event) (n : ℕ) → readCall r w last .said ≡ gives e n → n ≤ length w
 uses-within r w last e n h = rw h at (fair r w last .1)

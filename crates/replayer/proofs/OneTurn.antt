@@ -1,7 +1,7 @@
 -- One turn, from what its calls ensure. Assumes nothing.
 use Prim.Native.Nat.{ℕ, zero, suc, _+_, _*_, _≤_, _<_, min}
 use mathlib.Core.Path.{_≡_, refl, sym, _∙_, ap}
-use mathlib.Core.Bool.{Bool, false}
+use mathlib.Core.Bool.{Bool, true, false}
 use mathlib.Core.List.{List, [], _∷_, _++_}
 use native.Mathlib.Omega.{arith}
 use borrow.Author.Tests.{le-leb, leb-true, leb-false}
@@ -18,7 +18,7 @@ use Rattle.many.specs.declared.ManyAnswer.{ManyAnswer}
 use Rattle.many.proofs.Edges.{with-room}
 use Rattle.lines.specs.Lines.{longest, Puts, refusedWord}
 use Rattle.lines.proofs.Texts.{line-fits}
-use Rattle.replayer.specs.Replay.{full, windowOf, isLast, textOf, ends, endingOf, runText, turnRoom, turnRun, Turns}
+use Rattle.replayer.specs.Replay.{full, windowOf, isShort, isLast, textOf, ends, endingOf, wants, runText, turnRoom, turnRun, noTurn, Turns}
 use Rattle.replayer.specs.Rows.{AllTold, PutsLines}
 use Rattle.replayer.proofs.Onward.{text-le}
 use Rattle.replayer.proofs.Blocks.{Tens, all-told, rows-length, tens-length, front-rows, front-tens}
@@ -35,12 +35,13 @@ take-least l c =
     let e : min (length l) c ≡ c = omega arith in
     rw e)
 
-ending-le : (h : Halt) (n : ℕ) → length (endingOf h n) ≤ longest
-ending-le isFull n = omega arith
-ending-le wantsMore zero = omega arith
-ending-le wantsMore (suc n) = omega arith
-ending-le finishes n = omega arith
-ending-le (isRefused k vs) n = omega (arith, line-fits refusedWord (pos k ∷ []) 0 longest (omega arith) (omega arith))
+ending-le : (short : Bool) (h : Halt) (n : ℕ) → length (endingOf short h n) ≤ longest
+ending-le short isFull n = omega arith
+ending-le true wantsMore n = omega arith
+ending-le false wantsMore zero = omega arith
+ending-le false wantsMore (suc n) = omega arith
+ending-le short finishes n = omega arith
+ending-le short (isRefused k vs) n = omega (arith, line-fits refusedWord (pos k ∷ []) 0 longest (omega arith) (omega arith))
 
 written-front : (xs bs : List ℕ) → length bs ≤ length xs → written xs 0 bs ≡ bs ++ drop (length bs) xs
 unfolding written
@@ -48,15 +49,15 @@ written-front xs bs h =
     let e : 0 + length bs ≡ length bs = omega arith in
     rw (e, le-leb (length bs) (length xs) h)
 
-module _ (reader : Reader) (bytes : List ℕ) (rows tens : List ℤ) (out : List ℕ) (n : ℕ) (is : n ≡ turnRoom rows tens out) where
+module _ (reader : Reader) (bytes : List ℕ) (input-ended : Bool) (rows tens : List ℤ) (out : List ℕ) (n : ℕ) (is : n ≡ turnRoom rows tens out) where
   -- ---- room for no event
 
-  pub nothing : n ≡ 0 → Turns (turnRun (turnRoom rows tens out) reader bytes) rows tens out
-      (record { reader = reader; used = 0; filled = 0; ended = false }) rows tens out
+  pub nothing : n ≡ 0 → Turns bytes (turnRun (turnRoom rows tens out) reader bytes input-ended) rows tens out
+      (noTurn reader) rows tens out
   unfolding calls textOf rowsFrom tensFrom
   nothing e =
       let z : turnRoom rows tens out ≡ 0 = sym is ∙ e in
-      rw z (record { left = refl; used = refl; filled = refl; ended = refl; out = refl; rows = refl; tens = refl })
+      rw z (record { left = refl; used = refl; filled = refl; ended = refl; wants = refl; out = refl; rows = refl; tens = refl })
 
   -- ---- room for some
 
@@ -77,24 +78,28 @@ module _ (reader : Reader) (bytes : List ℕ) (rows tens : List ℤ) (out : List
         omega arith
 
     abbrev run : Run
-    run = turnRun n reader bytes
+    run = turnRun n reader bytes input-ended
 
     abbrev seen : List Seen
     seen = run .seen
 
+    abbrev text : List ℕ
+    text = runText (isShort bytes) run
+
     module _ (m : ManyAnswer) (rows₁ tens₁ : List ℤ) (end : ℕ) (e : end ≡ min (length bytes) full)
-        (t : Tells (manyCalls (room (take (8 * n) rows) (take (20 * n) tens)) reader (take end bytes) (isLast bytes)) (take (8 * n) rows) (take (20 * n) tens) m rows₁ tens₁)
+        (last : Bool) (f : last ≡ isLast input-ended bytes)
+        (t : Tells (manyCalls (room (take (8 * n) rows) (take (20 * n) tens)) reader (take end bytes) last) (take (8 * n) rows) (take (20 * n) tens) m rows₁ tens₁)
       where
         ran : Tells run (take (8 * n) rows) (take (20 * n) tens) m rows₁ tens₁
         ran =
             let some-room : 0 < n = omega arith in
-            rw (e, room-is, take-least bytes full, with-room n reader (windowOf bytes) (isLast bytes) some-room) at t
+            rw (e, f, room-is, take-least bytes full, with-room n reader (windowOf bytes) (isLast input-ended bytes) some-room) at t
 
         count-le : m .count ≤ n
-        count-le = omega (arith, ran .count, few n reader (windowOf bytes) (isLast bytes) .0)
+        count-le = omega (arith, ran .count, few n reader (windowOf bytes) (isLast input-ended bytes) .0)
 
         tens-beside : Tens seen
-        tens-beside = few n reader (windowOf bytes) (isLast bytes) .1
+        tens-beside = few n reader (windowOf bytes) (isLast input-ended bytes) .1
 
         rows-now : rows₁ ++ drop (8 * n) rows ≡ rowsFrom 0 seen rows
         rows-now = rw (ran .rows) (front-rows seen tens-beside (8 * n) rows rows-fit (omega (arith, ran .count, count-le)))
@@ -131,29 +136,31 @@ module _ (reader : Reader) (bytes : List ℕ) (rows tens : List ℤ) (out : List
               let l : length out₁ ≡ length out = ap length (lines .1) ∙ written-length out 0 (textOf seen) (omega (arith, text-fits)) in
               omega (arith, lines .0, text-fits)
 
-          module _ (filled : ℕ) (out₂ : List ℕ) (q : Puts out₁ at (endingOf (haltOf (m .stop)) (m .count)) filled out₂) where
-            all-fits : length (runText run) ≤ length out
+          module _ (filled : ℕ) (out₂ : List ℕ) (q : Puts out₁ at (endingOf (isShort bytes) (haltOf (m .stop)) (m .count)) filled out₂) where
+            all-fits : length (text) ≤ length out
             all-fits =
-                let last = endingOf (run .halt) (length seen) in
-                omega (arith, length-append (textOf seen) last, ending-le (run .halt) (length seen), text-fits)
+                let last = endingOf (isShort bytes) (run .halt) (length seen) in
+                omega (arith, length-append (textOf seen) last, ending-le (isShort bytes) (run .halt) (length seen), text-fits)
 
-            whole : Puts out 0 (runText run) filled out₂
+            whole : Puts out 0 (text) filled out₂
             whole =
-                two-puts out 0 (textOf seen) (endingOf (run .halt) (length seen)) (omega (arith, all-fits)) at out₁ lines filled out₂
+                two-puts out 0 (textOf seen) (endingOf (isShort bytes) (run .halt) (length seen)) (omega (arith, all-fits)) at out₁ lines filled out₂
                 (rw (ran .halt, ran .count) at q)
 
-            pub turned : (ended : Bool) → ended ≡ ends (haltOf (m .stop)) (m .count)
-                → Turns (turnRun (turnRoom rows tens out) reader bytes) rows tens out
-                (record { reader = m .reader; used = m .used; filled = filled; ended = ended })
+            pub turned : (ended : Bool) → ended ≡ ends (isShort bytes) (haltOf (m .stop)) (m .count)
+                → (w : Bool) → w ≡ wants (isShort bytes) (haltOf (m .stop))
+                → Turns bytes (turnRun (turnRoom rows tens out) reader bytes input-ended) rows tens out
+                (record { reader = m .reader; used = m .used; filled = filled; ended = ended; wants = w })
                 (rows₁ ++ drop (8 * n) rows) (tens₁ ++ drop (20 * n) tens) out₂
-            turned ended f =
+            turned ended x w y =
                 rw (← is)
                 (record {
                   left = ran .left;
                   used = ran .used;
                   filled = whole .0 ∙ omega arith;
-                  ended = rw (ran .halt, ran .count) at f;
-                  out = whole .1 ∙ written-front out (runText run) all-fits;
+                  ended = rw (ran .halt, ran .count) at x;
+                  wants = rw (ran .halt) at y;
+                  out = whole .1 ∙ written-front out (text) all-fits;
                   rows = rows-now;
                   tens = tens-now;
                 })

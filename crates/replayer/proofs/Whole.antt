@@ -1,13 +1,13 @@
 -- A turn prints what the program prints from there on. Assumes nothing.
-use Prim.Native.Nat.{ℕ, zero, suc, _+_, _-_, _≤_, _<_}
+use Prim.Native.Nat.{ℕ, zero, suc, _+_, _-_, _≤_, _<_, min}
 use mathlib.Core.Path.{_≡_, refl, sym, _∙_, ap}
-use mathlib.Core.Bool.{Bool, true, false, cond}
+use mathlib.Core.Bool.{Bool, true, false, cond, false≢true}
 use mathlib.Core.List.{List, [], _∷_, _++_, append-assoc, append-nil}
 use native.Mathlib.Omega.{arith}
-use borrow.Author.Tests.{lt-ltb, ltb-true}
-use lib.Dec.{ltb}
+use borrow.Author.Tests.{lt-ltb, ltb-true, ltb-false, le-ltb, leb-true, leb-false}
+use lib.Dec.{ltb, leb}
 use lib.ListN.{length, take, drop, length-take, length-drop, take-append-drop, drop-of-length-le}
-use lib.Seq.{take-all, take-append-add, drop-append-le, drop-drop}
+use lib.Seq.{take-all, take-take, take-append-add, drop-append-le, drop-drop}
 use lib.IntN.{pos}
 use Rattle.num.proofs.Cases.{by-bool}
 use Rattle.item.specs.Said.{Said, gives, more, finish, refuses}
@@ -16,9 +16,26 @@ use Rattle.state.specs.declared.Reader.{Reader}
 use Rattle.many.specs.Many.{Seen, Halt, isFull, wantsMore, finishes, isRefused, Run, seenBy, before, onSaid, calls}
 use Rattle.lines.specs.Lines.{lineOf, lastLine, plainLine, refusedWord}
 use Rattle.lines.specs.declared.Ending.the-variants.{Finish, TooLong}
-use Rattle.replayer.specs.Replay.{full, windowOf, isLast, textOf, ends, endingOf, runText, turnRun, printed, replayFrom}
-use Rattle.replayer.specs.Laws.{over, TurnReplays, turnsText, turnsEnd, AllPrinted, TurnsReplay}
-use Rattle.replayer.proofs.Longer.{NotMore, call-longer, more-leaves, uses-within}
+use Rattle.replayer.specs.Replay.{full, windowOf, isShort, isLast, tooLong, textOf, ends, endingOf, wants, runText, turnRun, printed, replayFrom}
+use Rattle.replayer.specs.Laws.{
+  Arrived,
+  some,
+  all,
+  atHand,
+  hasEnded,
+  Turn,
+  runOf,
+  short,
+  over,
+  turnText,
+  TurnReplays,
+  WantsAtMore,
+  turnsText,
+  turnsEnd,
+  AllPrinted,
+  TurnsReplay,
+}
+use Rattle.replayer.proofs.Longer.{NotMore, call-longer, more-leaves, more-not-last, uses-within}
 
 -- ---- the window of what is left of a body, of which a front w is at hand
 
@@ -33,16 +50,16 @@ window-longer w z h =
     ap (λ (n : ℕ). take n (w ++ z)) e ∙ take-append-add w z (full - length w)
 
 same-call : (r : Reader) (w z : List ℕ) (last : Bool) → Fits last w z → NotMore (readCall r w last .said)
-    → readCall r (windowOf (w ++ z)) (isLast (w ++ z)) ≡ readCall r w last
+    → readCall r (windowOf (w ++ z)) (isLast true (w ++ z)) ≡ readCall r w last
 same-call r w z true f h =
     let e : w ++ z ≡ w = ap (λ (l : List ℕ). w ++ l) (f .0) ∙ append-nil w in
     rw (e, lt-ltb (length w) full (f .1), take-all full w (omega (arith, f .1)))
 same-call r w z false f h =
-    rw (window-longer w z f) (call-longer r w (take (full - length w) z) (isLast (w ++ z)) h)
+    rw (window-longer w z f) (call-longer r w (take (full - length w) z) (isLast true (w ++ z)) h)
 
 -- ---- one call of the program
 
-one-call : (k : ℕ) (r : Reader) (b : List ℕ) (t : Step) (a : Said Event) → readCall r (windowOf b) (isLast b) ≡ t → t .said ≡ a
+one-call : (k : ℕ) (r : Reader) (b : List ℕ) (t : Step) (a : Said Event) → readCall r (windowOf b) (isLast true b) ≡ t → t .said ≡ a
     → replayFrom (suc k) r b ≡ printed a (t .memory .input) (λ n. replayFrom k (readerAfter t) (drop n b))
 unfolding replayFrom
 one-call k r b t a e f =
@@ -109,14 +126,41 @@ follows (suc n) k r w z last f =
     (λ e m s. an-event k r w z last f e m s (calls n (readerAfter t) (drop m w) last)
     (follows n k (readerAfter t) (drop m w) z last (fits-on last w z m f)))
 
--- ---- a turn
+-- ---- the window of a turn, and what is left behind it
 
-start-fits : (body : List ℕ) → Fits (isLast body) (take full body) (drop full body)
-start-fits body =
+abbrev reach : Arrived → ℕ
+reach (some n) = min full n
+reach all = full
+
+window-of : (a : Arrived) (body : List ℕ) → windowOf (atHand a body) ≡ take (reach a) body
+window-of (some n) body =
+    by-bool (leb full n)
+    (λ t. let h = leb-true full n t in
+    let e : min full n ≡ full = omega arith in
+    rw e (take-take full n body h))
+    (λ t. let h = leb-false full n t in
+    let e : min full n ≡ n = omega arith in
+    rw e (take-all full (take n body) (omega (arith, length-take n body))))
+window-of all body = refl
+
+start-fits : (a : Arrived) (body : List ℕ) → Fits (isLast (hasEnded a) (atHand a body)) (take (reach a) body) (drop (reach a) body)
+start-fits (some n) body = omega (arith, length-take (min full n) body)
+start-fits all body =
     let l = length-take full body in
     by-bool (ltb (length body) full)
     (λ t. let h = ltb-true (length body) full t in rw t (let g : length body ≤ full = omega arith in (drop-of-length-le body g, omega arith)))
     (λ t. rw t (omega arith))
+
+-- a full window is the body's, and not the last
+full-window : (a : Arrived) (body : List ℕ) → isShort (atHand a body) ≡ false
+    → (windowOf (atHand a body) ≡ windowOf body) × ((isLast (hasEnded a) (atHand a body) ≡ false) × (isLast true body ≡ false))
+full-window (some n) body t =
+    let h = ltb-false (length (take n body)) full t in
+    let l = length-take n body in
+    (take-take full n body (omega arith), (refl, le-ltb (length body) full (omega arith)))
+full-window all body t = (refl, (t, t))
+
+-- ---- a turn
 
 -- no event, and more: the first call says so
 of-said : (a : Said Event) (next : Event → ℕ → Run) (x : Event → ℕ → Seen) (left : Reader)
@@ -135,13 +179,14 @@ first-more n r w last h e =
     of-said (t .said) (λ e m. calls n (readerAfter t) (drop m w) last) (λ e m. seenBy r t e m) (readerAfter t) h e
 
 -- the last line, or what the next turn prints
-join : (h : Halt) (c : ℕ) (text next all : List ℕ) → all ≡ text ++ tailOf h next → (h ≡ wantsMore → c ≡ 0 → all ≡ text ++ lastLine TooLong)
-    → all ≡ (text ++ endingOf h c) ++ cond (ends h c) [] next
-join isFull c text next all e f = e ∙ ap (λ (l : List ℕ). l ++ next) (sym (append-nil text))
-join wantsMore zero text next all e f = f refl refl ∙ sym (append-nil (text ++ lastLine TooLong))
-join wantsMore (suc c) text next all e f = e ∙ ap (λ (l : List ℕ). l ++ next) (sym (append-nil text))
-join finishes c text next all e f = e ∙ sym (append-nil (text ++ lastLine Finish))
-join (isRefused k vs) c text next all e f = e ∙ sym (append-nil (text ++ plainLine refusedWord (pos k ∷ [])))
+join : (s : Bool) (h : Halt) (c : ℕ) (text next whole : List ℕ) → whole ≡ text ++ tailOf h next
+    → (s ≡ false → h ≡ wantsMore → c ≡ 0 → whole ≡ text ++ lastLine TooLong) → whole ≡ (text ++ endingOf s h c) ++ cond (ends s h c) [] next
+join s isFull c text next whole e f = e ∙ ap (λ (l : List ℕ). l ++ next) (sym (append-nil text))
+join true wantsMore c text next whole e f = e ∙ ap (λ (l : List ℕ). l ++ next) (sym (append-nil text))
+join false wantsMore zero text next whole e f = f refl refl refl ∙ sym (append-nil (text ++ lastLine TooLong))
+join false wantsMore (suc c) text next whole e f = e ∙ ap (λ (l : List ℕ). l ++ next) (sym (append-nil text))
+join s finishes c text next whole e f = e ∙ sym (append-nil (text ++ lastLine Finish))
+join s (isRefused k vs) c text next whole e f = e ∙ sym (append-nil (text ++ plainLine refusedWord (pos k ∷ [])))
 
 no-text : (xs : List Seen) → length xs ≡ 0 → textOf xs ≡ []
 unfolding textOf
@@ -149,49 +194,98 @@ no-text [] e = refl
 no-text (x ∷ xs) e = absurd (omega arith)
 
 pub turn-replays : TurnReplays
-turn-replays n k r body =
-    let run = turnRun (suc n) r body in
-    let whole = take-append-drop full body in
-    let p = follows (suc n) k r (take full body) (drop full body) (isLast body) (start-fits body) in
-    join (run .halt) (length (run .seen)) (textOf (run .seen)) (replayFrom (suc k) (run .reader) (drop (run .used) body))
+turn-replays t k r body =
+    let a = t .arrived in
+    let run = runOf t r body in
+    let whole = take-append-drop (reach a) body in
+    let p = follows (suc (t .room)) k r (take (reach a) body) (drop (reach a) body) (isLast (hasEnded a) (atHand a body)) (start-fits a body) in
+    join (short t body) (run .halt) (length (run .seen)) (textOf (run .seen)) (replayFrom (suc k) (run .reader) (drop (run .used) body))
     (replayFrom (length (run .seen) + suc k) r body)
-    (rw whole at p)
-    (λ h c.
+    (rw (whole, ← window-of a body) at p)
+    (λ s h c.
     let e : length (run .seen) + suc k ≡ suc k = omega arith in
+    let q = full-window a body s in
+    let m = first-more (t .room) r (windowOf (atHand a body)) (isLast (hasEnded a) (atHand a body)) h c in
+    let f : isLast (hasEnded a) (atHand a body) ≡ isLast true body = q .1 .0 ∙ sym (q .1 .1) in
     rw (e, no-text (run .seen) c)
-    (one-call k r body (readCall r (windowOf body) (isLast body)) more refl (first-more n r (windowOf body) (isLast body) h c)))
+    (one-call k r body (readCall r (windowOf body) (isLast true body)) more refl (rw (q .0, f) at m)))
 
 -- ---- turns one behind the other
 
 -- the first turn ends the replay
-over-at-once : (n : ℕ) (ns : List ℕ) (r : Reader) (body : List ℕ) → over (turnRun (suc n) r body) ≡ true
-    → AllPrinted r body (turnsText (n ∷ ns) r body)
+over-at-once : (t : Turn) (ts : List Turn) (r : Reader) (body : List ℕ) → over t r body ≡ true → AllPrinted r body (turnsText (t ∷ ts) r body)
 unfolding turnsText
-over-at-once n ns r body t =
-    let run = turnRun (suc n) r body in
-    record { calls = length (run .seen); same = λ k. turn-replays n k r body ∙ rw t }
+over-at-once t ts r body o = record { calls = length (runOf t r body .seen); same = λ k. turn-replays t k r body ∙ rw o }
 
 -- a later one does
-over-later : (n : ℕ) (ns : List ℕ) (r : Reader) (body : List ℕ) → over (turnRun (suc n) r body) ≡ false
-    → let run = turnRun (suc n) r body in let left = drop (run .used) body in
-    AllPrinted (run .reader) left (turnsText ns (run .reader) left) → AllPrinted r body (turnsText (n ∷ ns) r body)
+over-later : (t : Turn) (ts : List Turn) (r : Reader) (body : List ℕ) → over t r body ≡ false
+    → let run = runOf t r body in let left = drop (run .used) body in
+    AllPrinted (run .reader) left (turnsText ts (run .reader) left) → AllPrinted r body (turnsText (t ∷ ts) r body)
 unfolding turnsText
-over-later n ns r body t a =
-    let run = turnRun (suc n) r body in
-    let left = drop (run .used) body in
+over-later t ts r body o a =
+    let run = runOf t r body in
     record {
       calls = length (run .seen) + a .calls;
       same = λ k.
           let e : length (run .seen) + a .calls + suc k ≡ length (run .seen) + suc (a .calls + k) = omega arith in
           let f : suc (a .calls + k) ≡ a .calls + suc k = omega arith in
-          rw e (turn-replays n (a .calls + k) r body ∙ rw (t, f) (ap (λ (l : List ℕ). runText run ++ l) (a .same k)));
+          rw e (turn-replays t (a .calls + k) r body ∙ rw (o, f) (ap (λ (l : List ℕ). turnText t r body ++ l) (a .same k)));
     }
 
 pub turns-replay : TurnsReplay
 unfolding turnsEnd
 turns-replay [] r body h = let z : _≡_ {A = ℕ} 0 1 = cc in absurd (omega arith)
-turns-replay (n ∷ ns) r body h =
-    let run = turnRun (suc n) r body in
-    by-bool (over run)
-    (λ t. over-at-once n ns r body t)
-    (λ t. over-later n ns r body t (turns-replay ns (run .reader) (drop (run .used) body) (rw t at h)))
+turns-replay (t ∷ ts) r body h =
+    let run = runOf t r body in
+    by-bool (over t r body)
+    (λ o. over-at-once t ts r body o)
+    (λ o. over-later t ts r body o (turns-replay ts (run .reader) (drop (run .used) body) (rw o at h)))
+
+-- ---- where a turn wants more bytes
+
+abbrev AtMore : List ℕ → Bool → Run → Type 0
+AtMore w last run = run .halt ≡ wantsMore → readCall (run .reader) (drop (run .used) w) last .said ≡ more
+
+stops-at-more : (r : Reader) (w : List ℕ) (last : Bool) (a : Said Event) → readCall r w last .said ≡ a → (next : Event → ℕ → Run)
+    → ((e : Event) (n : ℕ) → readCall r w last .said ≡ gives e n → AtMore w last (next e n))
+    → AtMore w last (onSaid a next (readerAfter (readCall r w last)))
+stops-at-more r w last (gives e n) s next f h = f e n s h
+stops-at-more r w last more s next f h = rw (more-leaves r w last s) s
+stops-at-more r w last (finish n) s next f h = let z : _≡_ {A = ℕ} 0 1 = cc in absurd (omega arith)
+stops-at-more r w last (refuses k vs) s next f h = let z : _≡_ {A = ℕ} 0 1 = cc in absurd (omega arith)
+
+at-more : (n : ℕ) (r : Reader) (w : List ℕ) (last : Bool) → AtMore w last (calls n r w last)
+unfolding calls
+at-more zero r w last h = let z : _≡_ {A = ℕ} 0 1 = cc in absurd (omega arith)
+at-more (suc n) r w last h =
+    let t = readCall r w last in
+    stops-at-more r w last (t .said) refl (λ e m. before (seenBy r t e m) (calls n (readerAfter t) (drop m w) last))
+    (λ e m s g.
+    let run = calls n (readerAfter t) (drop m w) last in
+    rw (← drop-drop (run .used) m w) (at-more n (readerAfter t) (drop m w) last g))
+    h
+
+wants-is : (s : Bool) (h : Halt) → wants s h ≡ true → (s ≡ true) × (h ≡ wantsMore)
+wants-is s isFull e = absurd (false≢true e)
+wants-is s wantsMore e = (e, refl)
+wants-is s finishes e = absurd (false≢true e)
+wants-is s (isRefused k vs) e = absurd (false≢true e)
+
+not-ended : (ended s : Bool) → s ≡ true → cond ended s false ≡ false → ended ≡ false
+not-ended true s e f = absurd (false≢true (sym f ∙ e))
+not-ended false s e f = refl
+
+pub wants-at-more : WantsAtMore
+wants-at-more t r body e =
+    let bytes = atHand (t .arrived) body in
+    let ended = hasEnded (t .arrived) in
+    let run = runOf t r body in
+    let w = wants-is (isShort bytes) (run .halt) e in
+    let l = ltb-true (length bytes) full (w .0) in
+    let m = at-more (suc (t .room)) r (windowOf bytes) (isLast ended bytes) (w .1) in
+    let f = more-not-last (run .reader) (drop (run .used) (windowOf bytes)) (isLast ended bytes) m in
+    let e : take full bytes ≡ bytes = take-all full bytes (omega arith) in (
+      not-ended ended (isShort bytes) (w .0) f,
+      ap (λ (l : List ℕ). readCall (run .reader) (drop (run .used) l) false .said) (sym e)
+          ∙ ap (λ (b : Bool). readCall (run .reader) (drop (run .used) (windowOf bytes)) b .said) (sym f) ∙ m,
+    )

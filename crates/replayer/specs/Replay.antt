@@ -1,7 +1,7 @@
--- The replay program on the bytes at hand: its window, its lines, one turn. docs/FORMAT.md, "The replay program".
+-- The replay program on the bytes at hand: its window, its lines, one turn; and what it prints of a whole body. docs/FORMAT.md, "The replay program".
 use Prim.Native.Nat.{ℕ, zero, suc, _+_, _*_, _-_, _/_, min}
 use mathlib.Core.Path.{_≡_}
-use mathlib.Core.Bool.{Bool, true, false}
+use mathlib.Core.Bool.{Bool, true, false, cond}
 use mathlib.Core.List.{List, [], _∷_, _++_}
 use lib.Dec.{ltb}
 use lib.ListN.{length, take, drop}
@@ -37,9 +37,12 @@ full = 65536
 abbrev pub windowOf : List ℕ → List ℕ
 windowOf bytes = take full bytes
 
--- only a shorter window can be the last
-abbrev pub isLast : List ℕ → Bool
-isLast bytes = ltb (length bytes) full
+abbrev pub isShort : List ℕ → Bool
+isShort bytes = ltb (length bytes) full
+
+-- only a shorter window can be the last, and only where the input has ended
+abbrev pub isLast : Bool → List ℕ → Bool
+isLast ended bytes = cond ended (isShort bytes) false
 
 -- ---- the text
 
@@ -48,25 +51,35 @@ unfoldable pub textOf : List Seen → List ℕ
 textOf [] = []
 textOf (x ∷ xs) = lineOf (x .event) (x .input) ++ textOf xs
 
--- whether calls on a window end the replay, by why they stopped and how many events they gave: too long, where a full window answers
--- more at once
-abbrev pub ends : Halt → ℕ → Bool
-ends isFull n = false
-ends wantsMore zero = true
-ends wantsMore (suc n) = false
-ends finishes n = true
-ends (isRefused k vs) n = true
+-- too long: a full window answers more at once, before any event
+abbrev pub tooLong : Bool → ℕ → Bool
+tooLong true n = false
+tooLong false zero = true
+tooLong false (suc n) = false
+
+-- whether calls on a window, a short one or a full one, end the replay: by why they stopped and how many events they gave
+abbrev pub ends : Bool → Halt → ℕ → Bool
+ends short isFull n = false
+ends short wantsMore n = tooLong short n
+ends short finishes n = true
+ends short (isRefused k vs) n = true
 
 -- the last line, if they do
-abbrev pub endingOf : Halt → ℕ → List ℕ
-endingOf isFull n = []
-endingOf wantsMore zero = lastLine TooLong
-endingOf wantsMore (suc n) = []
-endingOf finishes n = lastLine Finish
-endingOf (isRefused k vs) n = plainLine refusedWord (pos k ∷ [])
+abbrev pub endingOf : Bool → Halt → ℕ → List ℕ
+endingOf short isFull n = []
+endingOf short wantsMore n = cond (tooLong short n) (lastLine TooLong) []
+endingOf short finishes n = lastLine Finish
+endingOf short (isRefused k vs) n = plainLine refusedWord (pos k ∷ [])
 
-abbrev pub runText : Run → List ℕ
-runText run = textOf (run .seen) ++ endingOf (run .halt) (length (run .seen))
+-- a short window that answers more: the program reads on
+abbrev pub wants : Bool → Halt → Bool
+wants short isFull = false
+wants short wantsMore = short
+wants short finishes = false
+wants short (isRefused k vs) = false
+
+abbrev pub runText : Bool → Run → List ℕ
+runText short run = textOf (run .seen) ++ endingOf short (run .halt) (length (run .seen))
 
 -- ---- a turn
 
@@ -74,16 +87,24 @@ runText run = textOf (run .seen) ++ endingOf (run .halt) (length (run .seen))
 abbrev pub turnRoom : List ℤ → List ℤ → List ℕ → ℕ
 turnRoom rows tens out = min (room rows tens) ((length out - longest) / longest)
 
-abbrev pub turnRun : ℕ → Reader → List ℕ → Run
-turnRun n reader bytes = calls n reader (windowOf bytes) (isLast bytes)
+-- the calls on the bytes at hand
+abbrev pub turnRun : ℕ → Reader → List ℕ → Bool → Run
+turnRun n reader bytes ended = calls n reader (windowOf bytes) (isLast ended bytes)
 
--- the turn is a run's: its text stands in front of the target, and the rest of the target stays; the rows and the tens are the run's
-pub record Turns (run : Run) (rows₀ tens₀ : List ℤ) (out₀ : List ℕ) (r : Turned) (rows₁ tens₁ : List ℤ) (out₁ : List ℕ) : Type 0 where
+-- where there is no room for an event
+abbrev pub noTurn : Reader → Turned
+noTurn r = record { reader = r; used = 0; filled = 0; ended = false; wants = false }
+
+-- the turn is a run's on bytes at hand: its text stands in front of the target, and the rest of the target stays; the rows and the tens
+-- are the run's
+pub record Turns (bytes : List ℕ) (run : Run) (rows₀ tens₀ : List ℤ) (out₀ : List ℕ) (r : Turned) (rows₁ tens₁ : List ℤ) (out₁ : List ℕ)
+    : Type 0 where
   pub left : r .reader ≡ run .reader
   pub used : r .used ≡ run .used
-  pub filled : r .filled ≡ length (runText run)
-  pub ended : r .ended ≡ ends (run .halt) (length (run .seen))
-  pub out : out₁ ≡ runText run ++ drop (length (runText run)) out₀
+  pub filled : r .filled ≡ length (runText (isShort bytes) run)
+  pub ended : r .ended ≡ ends (isShort bytes) (run .halt) (length (run .seen))
+  pub wants : r .wants ≡ wants (isShort bytes) (run .halt)
+  pub out : out₁ ≡ runText (isShort bytes) run ++ drop (length (runText (isShort bytes) run)) out₀
   pub rows : rows₁ ≡ rowsFrom 0 (run .seen) rows₀
   pub tens : tens₁ ≡ tensFrom 0 (run .seen) tens₀
 
@@ -100,7 +121,7 @@ printed (refuses k vs) ten next = plainLine refusedWord (pos k ∷ [])
 unfoldable pub replayFrom : ℕ → Reader → List ℕ → List ℕ
 replayFrom zero r body = []
 replayFrom (suc k) r body =
-    let t = readCall r (windowOf body) (isLast body) in
+    let t = readCall r (windowOf body) (isLast true body) in
     printed (t .said) (t .memory .input) (λ n. replayFrom k (readerAfter t) (drop n body))
 
 -- so many calls are enough for a body

@@ -1,10 +1,11 @@
 // The replay program's work: reading calls on the bytes at hand, and the lines of their events.
 ghost use mathlib.Core.Path.{_≡_};
+ghost use mathlib.Core.Bool.{false, cond};
 ghost use Prim.Native.Nat.{_+_, _*_, _-_, _/_, _≤_, min};
 ghost use lib.ListN.{length, take, drop};
 ghost use Rattle.lines.specs.Lines.{inputWord, longest, Puts};
 ghost use Rattle.many.specs.Many.{haltOf};
-ghost use Rattle.replayer.specs.Replay.{endingOf, ends, turnRoom, turnRun, Turns};
+ghost use Rattle.replayer.specs.Replay.{endingOf, ends, tooLong, wants, turnRoom, turnRun, noTurn, Turns};
 ghost use Rattle.replayer.specs.Rows.{pastOr, Tries, TriesPlain, cidTold, clientAnd, recordTold, PutsLine, PutsLines};
 use item::Cid;
 use lines::Ending;
@@ -16,12 +17,14 @@ const FULL: usize = 65536;
 
 const LONGEST: usize = 138;
 
-// What a turn leaves: the reader, the bytes used, the bytes of text, and whether the text ends with the last line.
+// What a turn leaves: the reader, the bytes used, the bytes of text, whether the text ends with the last line, and whether nothing can follow
+// before more bytes are at hand or the input has ended.
 pub struct Turned {
     pub reader: Reader,
     pub used: usize,
     pub filled: usize,
     pub ended: bool,
+    pub wants: bool,
 }
 
 // The place past what was written, else the place itself.
@@ -112,15 +115,25 @@ fn put_rows(rows: &[i32], tens: &[i32], count: usize, out: &mut [u8]) -> usize
     at
 }
 
+// Whether a window, short or full, that answers more after so many events is too long.
+fn is_too_long(short: bool, count: usize) -> bool
+    ensures { λ r. ⌜ r ≡ tooLong short count ⌝ }
+{
+    if short {
+        return false;
+    }
+    count == 0
+}
+
 // The last line, if there is one: the place past it.
-fn put_ending(stop: Stop, count: usize, out: &mut [u8], at: usize) -> usize
+fn put_ending(short: bool, stop: Stop, count: usize, out: &mut [u8], at: usize) -> usize
     requires { ⌜ at + longest ≤ length (now out) ⌝ }
-    ensures { λ r. ⌜ Puts (now (out .entry)) at (endingOf (haltOf stop) count) r (now (out .exit)) ⌝ }
+    ensures { λ r. ⌜ Puts (now (out .entry)) at (endingOf short (haltOf stop) count) r (now (out .exit)) ⌝ }
 {
     match stop {
         Stop::Full => at,
         Stop::More => {
-            if count == 0 {
+            if is_too_long(short, count) {
                 return past(lines::write_last(Ending::TooLong, out, at), at);
             }
             at
@@ -131,14 +144,26 @@ fn put_ending(stop: Stop, count: usize, out: &mut [u8], at: usize) -> usize
 }
 
 // Whether there is one.
-fn has_ending(stop: Stop, count: usize) -> bool
-    ensures { λ r. ⌜ r ≡ ends (haltOf stop) count ⌝ }
+fn has_ending(short: bool, stop: Stop, count: usize) -> bool
+    ensures { λ r. ⌜ r ≡ ends short (haltOf stop) count ⌝ }
 {
     match stop {
         Stop::Full => false,
-        Stop::More => count == 0,
+        Stop::More => is_too_long(short, count),
         Stop::Finish => true,
         Stop::Refused(_) => true,
+    }
+}
+
+// Whether a short window has answered more.
+fn wants_more(short: bool, stop: Stop) -> bool
+    ensures { λ r. ⌜ r ≡ wants short (haltOf stop) ⌝ }
+{
+    match stop {
+        Stop::Full => false,
+        Stop::More => short,
+        Stop::Finish => false,
+        Stop::Refused(_) => false,
     }
 }
 
@@ -168,34 +193,53 @@ fn event_room(rows: usize, tens: usize, out: usize) -> usize
     least(least(rows / 8, tens / 20), line_room(out))
 }
 
+// Only a short window can be the last, and only where the input has ended.
+fn is_last(ended: bool, short: bool) -> bool
+    ensures { λ r. ⌜ r ≡ cond ended short false ⌝ }
+{
+    if ended {
+        return short;
+    }
+    false
+}
+
+// Where there is no room for an event.
+fn no_turn(reader: Reader) -> Turned
+    ensures { λ r. ⌜ r ≡ noTurn reader ⌝ }
+{
+    Turned {
+        reader,
+        used: 0,
+        filled: 0,
+        ended: false,
+        wants: false,
+    }
+}
+
 // Many reading calls on the window at the front of the bytes, as many as there is room for, and their lines into the target. The bytes
-// are all that are at hand from the reader's place on: fewer than a full window only where no more come.
+// are those at hand from the reader's place on; where the input has ended, they are all that are left.
 pub fn turn(
     reader: Reader,
     bytes: &[u8],
+    ended: bool,
     rows: &mut [i32],
     tens: &mut [i32],
     out: &mut [u8],
 ) -> Turned
-    ensures { λ r. ⌜ Turns (turnRun (turnRoom (now (rows .entry)) (now (tens .entry)) (now (out .entry))) reader (now (bytes .entry))) (now (rows .entry)) (now (tens .entry)) (now (out .entry)) r (now (rows .exit)) (now (tens .exit)) (now (out .exit)) ⌝ }
+    ensures { λ r. ⌜ Turns (now (bytes .entry)) (turnRun (turnRoom (now (rows .entry)) (now (tens .entry)) (now (out .entry))) reader (now (bytes .entry)) ended) (now (rows .entry)) (now (tens .entry)) (now (out .entry)) r (now (rows .exit)) (now (tens .exit)) (now (out .exit)) ⌝ }
 {
     let n = event_room(rows.len(), tens.len(), out.len());
     if n == 0 {
-        return Turned {
-            reader,
-            used: 0,
-            filled: 0,
-            ended: false,
-        };
+        return no_turn(reader);
     }
     let end = least(bytes.len(), FULL);
-    let last = bytes.len() < FULL;
+    let short = bytes.len() < FULL;
     let row_end = 8 * n;
     let ten_end = 20 * n;
     let many = many::read_many(
         reader,
         &bytes[..end],
-        last,
+        is_last(ended, short),
         &mut rows[..row_end],
         &mut tens[..ten_end],
     );
@@ -206,7 +250,8 @@ pub fn turn(
     Turned {
         reader: left,
         used: many.used,
-        filled: put_ending(stop, count, out, at),
-        ended: has_ending(stop, count),
+        filled: put_ending(short, stop, count, out, at),
+        ended: has_ending(short, stop, count),
+        wants: wants_more(short, stop),
     }
 }

@@ -6,4 +6,4 @@ use Rattle.replay.proofs.buffer.Statement.{statement}
 use Rattle.replay.proofs.buffer.Tie as tie
 
 pub buffer-spec : {M : Type 1} → statement M
-buffer-spec = tie.close (tie.spec (λ c. sym (length-replicate {A = ℕ} 1048576 0)))
+buffer-spec = tie.close (tie.spec (λ c. sym (length-replicate {A = ℕ} 131072 0)))
