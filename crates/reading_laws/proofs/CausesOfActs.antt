@@ -18,7 +18,7 @@ use Rattle.varint.specs.declared.IntRead.the-variants as ints
 use Rattle.packer.specs.declared.Part.{Part}
 use Rattle.fields.specs.Fields.{num, got, dtField, andThen, readFields}
 use Rattle.fields.specs.Views.{numbers}
-use Rattle.item.specs.Said.{refusing}
+use Rattle.item.specs.Said.{Said, gives, more, finish, refuses, refusing}
 use Rattle.item.specs.Records.{Content, content, asContent, readRest}
 use Rattle.item.specs.declared.Kind.{Kind}
 use Rattle.item.specs.declared.Kind.the-variants as kinds
@@ -39,6 +39,18 @@ use Rattle.reading_laws.specs.Causes.{new, old, closed, closedRaised, cl
 use Rattle.reading_laws.specs.Causes as cause
 use Rattle.reading_laws.proofs.UnknownKinds.{kind-refused, refused-kind}
 use Rattle.reading_laws.proofs.RefusedRests.{RestRefused, byDt, byCount, byArgs, rest-refused, refused-rest}
+
+-- ---- what is no refusal
+
+module _ {C : Type 0} {k : ℕ} {vs : List ℤ} where
+  no-event : {e : Event} {n : ℕ} → gives e n ≡ refuses k vs → C
+  no-event e = let z : _≡_ {A = ℕ} 0 1 = cc in absurd (omega arith)
+
+  no-finish : {n : ℕ} → _≡_ {A = Said Event} (finish n) (refuses k vs) → C
+  no-finish e = let z : _≡_ {A = ℕ} 0 1 = cc in absurd (omega arith)
+
+  no-more : _≡_ {A = Said Event} more (refuses k vs) → C
+  no-more e = let z : _≡_ {A = ℕ} 0 1 = cc in absurd (omega arith)
 
 -- ---- ticks past the last
 
@@ -130,23 +142,23 @@ module _ (s : Scalars) (e : Entries) (w : List ℕ) (last : Bool) (g : goodScala
   by-refusal q n {x} h c = subst (λ (r : Refusal). Refuses s e w last r x) (same-refusal q n h) c
 
   pub act-cause : {f : Memory → Step} (m : Memory) (n : Refusal) → Act s e w last f → f m .said ≡ refusing n → Refuses s e w last n (Left (f m))
-  act-cause m n (act.wantsMore l o) x = let z : _≡_ {A = ℕ} 0 1 = cc in absurd (omega arith)
-  act-cause m n (act.finishes h o) x = let z : _≡_ {A = ℕ} 0 1 = cc in absurd (omega arith)
+  act-cause m n (act.wantsMore l o) x = no-more x
+  act-cause m n (act.finishes h o) x = no-finish x
   act-cause m n (act.refusesPlain r y) x = by-refusal r n x (plain-cause y)
   act-cause m n (act.refusesPlayer r c y) x = by-refusal r n x (player-cause y)
   act-cause m n (act.refusesInput r c y) x = by-refusal r n x (input-cause y)
   act-cause m n (act.refuses13 h i b p) x = by-refusal refusal.PlayerNewDuplicate n x (cause.duplicate h i p)
-  act-cause m n (act.tickStarts h p o) x = let z : _≡_ {A = ℕ} 0 1 = cc in absurd (omega arith)
-  act-cause m n (act.tickEnds h p i b y) x = let z : _≡_ {A = ℕ} 0 1 = cc in absurd (omega arith)
-  act-cause m n (act.lastTickEnds h i) x = let z : _≡_ {A = ℕ} 0 1 = cc in absurd (omega arith)
-  act-cause m n (act.skipStarts h o y) x = let z : _≡_ {A = ℕ} 0 1 = cc in absurd (omega arith)
-  act-cause m n (act.skipEnds h i y) x = let z : _≡_ {A = ℕ} 0 1 = cc in absurd (omega arith)
-  act-cause m n (act.playerComes h i b o) x = let z : _≡_ {A = ℕ} 0 1 = cc in absurd (omega arith)
-  act-cause m n (act.playerMoves h i p u v) x = let z : _≡_ {A = ℕ} 0 1 = cc in absurd (omega arith)
-  act-cause m n (act.playerLeaves h i p) x = let z : _≡_ {A = ℕ} 0 1 = cc in absurd (omega arith)
-  act-cause m n (act.inputComes h i f b) x = let z : _≡_ {A = ℕ} 0 1 = cc in absurd (omega arith)
-  act-cause m n (act.inputMoves h i f p) x = let z : _≡_ {A = ℕ} 0 1 = cc in absurd (omega arith)
-  act-cause m n (act.passes h o i) x = let z : _≡_ {A = ℕ} 0 1 = cc in absurd (omega arith)
+  act-cause m n (act.tickStarts h p o) x = no-event x
+  act-cause m n (act.tickEnds h p i b y) x = no-event x
+  act-cause m n (act.lastTickEnds h i) x = no-event x
+  act-cause m n (act.skipStarts h o y) x = no-event x
+  act-cause m n (act.skipEnds h i y) x = no-event x
+  act-cause m n (act.playerComes h i b o) x = no-event x
+  act-cause m n (act.playerMoves h i p u v) x = no-event x
+  act-cause m n (act.playerLeaves h i p) x = no-event x
+  act-cause m n (act.inputComes h i f b) x = no-event x
+  act-cause m n (act.inputMoves h i f p) x = no-event x
+  act-cause m n (act.passes h o i) x = no-event x
 
 -- ---- acts of causes
 

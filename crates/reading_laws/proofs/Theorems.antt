@@ -1,14 +1,13 @@
 -- The statements of specs/Laws.antt. Assumes nothing.
 use Prim.Native.Nat.{ℕ}
 use mathlib.Core.Path.{_≡_, refl, sym, _∙_, subst, ap}
-use mathlib.Core.Bool.{Bool, true, false}
+use mathlib.Core.Bool.{Bool, true, false, false≢true}
 use mathlib.Core.List.{List}
-use native.Mathlib.Omega.{arith}
 use lib.IntN.{ℤ}
 use Rattle.refusal.specs.declared.Refusal.{Refusal}
 use Rattle.refusal.specs.declared.Refusal.the-variants as refusal
 use Rattle.fields.specs.declared.Args.{Args}
-use Rattle.item.specs.Said.{Said, more, refusing}
+use Rattle.item.specs.Said.{Said, gives, more, finish, refuses, refusing}
 use Rattle.views.proofs.Refusals.{same-refusal}
 use Rattle.state.specs.State.{Memory, goodScalars, goodEntries, goodReader}
 use Rattle.state.specs.Reading.{Event, tickStart, tickEnd, playerNew, playerChange, playerOld, input, other, Step, step, goodCall, memoryOf, readCall, readerAfter}
@@ -37,6 +36,12 @@ use Rattle.reading_laws.proofs.Answered.{same-answer, same-args}
 good-scalars : (r : Reader) → goodReader r ≡ true → goodScalars (r .scalars) ≡ true
 unfolding goodReader
 good-scalars r g = left-of (goodScalars (r .scalars)) (goodEntries (r .entries)) g
+
+abbrev isMore : Said Event → Bool
+isMore (gives e n) = false
+isMore more = true
+isMore (finish n) = false
+isMore (refuses k vs) = false
 
 -- ---- a call on a reader: on one that isn't good, on a closed one, and by an act on an open one
 
@@ -79,29 +84,29 @@ module _ (r : Reader) (w : List ℕ) (last : Bool) where
 
   -- ---- more
 
-  act-wants : {f : Memory → Step} (m : Memory) → Act (r .scalars) (r .entries) w last f → f m .said ≡ more
+  act-wants : {f : Memory → Step} (m : Memory) → Act (r .scalars) (r .entries) w last f → isMore (f m .said) ≡ true
       → (last ≡ false) × BytesRunOut (r .scalars) w
   act-wants m (act.wantsMore l o) x = (l, o)
-  act-wants m (act.finishes h o) x = let z : _≡_ {A = ℕ} 0 1 = cc in absurd (omega arith)
-  act-wants m (act.refusesPlain r y) x = let z : _≡_ {A = ℕ} 0 1 = cc in absurd (omega arith)
-  act-wants m (act.refusesPlayer r c y) x = let z : _≡_ {A = ℕ} 0 1 = cc in absurd (omega arith)
-  act-wants m (act.refusesInput r c y) x = let z : _≡_ {A = ℕ} 0 1 = cc in absurd (omega arith)
-  act-wants m (act.refuses13 h i b p) x = let z : _≡_ {A = ℕ} 0 1 = cc in absurd (omega arith)
-  act-wants m (act.tickStarts h p o) x = let z : _≡_ {A = ℕ} 0 1 = cc in absurd (omega arith)
-  act-wants m (act.tickEnds h p i b y) x = let z : _≡_ {A = ℕ} 0 1 = cc in absurd (omega arith)
-  act-wants m (act.lastTickEnds h i) x = let z : _≡_ {A = ℕ} 0 1 = cc in absurd (omega arith)
-  act-wants m (act.skipStarts h o y) x = let z : _≡_ {A = ℕ} 0 1 = cc in absurd (omega arith)
-  act-wants m (act.skipEnds h i y) x = let z : _≡_ {A = ℕ} 0 1 = cc in absurd (omega arith)
-  act-wants m (act.playerComes h i b o) x = let z : _≡_ {A = ℕ} 0 1 = cc in absurd (omega arith)
-  act-wants m (act.playerMoves h i p u v) x = let z : _≡_ {A = ℕ} 0 1 = cc in absurd (omega arith)
-  act-wants m (act.playerLeaves h i p) x = let z : _≡_ {A = ℕ} 0 1 = cc in absurd (omega arith)
-  act-wants m (act.inputComes h i f b) x = let z : _≡_ {A = ℕ} 0 1 = cc in absurd (omega arith)
-  act-wants m (act.inputMoves h i f p) x = let z : _≡_ {A = ℕ} 0 1 = cc in absurd (omega arith)
-  act-wants m (act.passes h o i) x = let z : _≡_ {A = ℕ} 0 1 = cc in absurd (omega arith)
+  act-wants m (act.finishes h o) x = absurd (false≢true x)
+  act-wants m (act.refusesPlain r y) x = absurd (false≢true x)
+  act-wants m (act.refusesPlayer r c y) x = absurd (false≢true x)
+  act-wants m (act.refusesInput r c y) x = absurd (false≢true x)
+  act-wants m (act.refuses13 h i b p) x = absurd (false≢true x)
+  act-wants m (act.tickStarts h p o) x = absurd (false≢true x)
+  act-wants m (act.tickEnds h p i b y) x = absurd (false≢true x)
+  act-wants m (act.lastTickEnds h i) x = absurd (false≢true x)
+  act-wants m (act.skipStarts h o y) x = absurd (false≢true x)
+  act-wants m (act.skipEnds h i y) x = absurd (false≢true x)
+  act-wants m (act.playerComes h i b o) x = absurd (false≢true x)
+  act-wants m (act.playerMoves h i p u v) x = absurd (false≢true x)
+  act-wants m (act.playerLeaves h i p) x = absurd (false≢true x)
+  act-wants m (act.inputComes h i f b) x = absurd (false≢true x)
+  act-wants m (act.inputMoves h i f p) x = absurd (false≢true x)
+  act-wants m (act.passes h o i) x = absurd (false≢true x)
 
-  call-wants : {t : Step} → ReadAct r w last t → t .said ≡ more → WantsMore r w last
-  call-wants (act.onBad g) e = let z : _≡_ {A = ℕ} 0 1 = cc in absurd (omega arith)
-  call-wants (act.onClosed g c) e = let z : _≡_ {A = ℕ} 0 1 = cc in absurd (omega arith)
+  call-wants : {t : Step} → ReadAct r w last t → isMore (t .said) ≡ true → WantsMore r w last
+  call-wants (act.onBad g) e = absurd (false≢true e)
+  call-wants (act.onClosed g c) e = absurd (false≢true e)
   call-wants (act.onOpen g c a) e =
       let y = act-wants (memoryOf (r .entries)) a e in
       record { reader = record { good = g; unclosed = c }; flag = y .0; out = y .1 }
@@ -127,7 +132,8 @@ refusals-have-causes r w last a h n =
 pub more-is-wanted : MoreIsWanted
 more-is-wanted r w last a h =
     record {
-      wants = λ e. call-wants r w last (read-acts r w last) (sym (h .said) ∙ ap (λ (x : Answer). saidWith x (a .args)) e);
+      wants = λ e.
+          call-wants r w last (read-acts r w last) (ap isMore (sym (h .said) ∙ ap (λ (x : Answer). saidWith x (a .args)) e));
       says = λ m.
           let d = wants-call r w last m in
           (same-answer (a .answer) answers.More (a .args) (a .args) (h .said ∙ d .0), h .left ∙ d .1);
