@@ -1,13 +1,11 @@
 // Replays bodies by turns, with room for a few events only, and prints their lines. Standard input holds inputs one behind the other, each
 // after its length in three bytes, the low one first: a version byte, then a body.
 ghost use mathlib.Core.Path.{_≡_};
-ghost use Prim.Native.Nat.{_-_};
 ghost use lib.ListN.{length};
 use item::Version;
 use item::VersionOf;
 use libc::STDOUT_FILENO;
 use lines::Ending;
-use packer::Part;
 use packer::PartRead;
 use refusal::Refusal;
 use state::Reader;
@@ -15,25 +13,7 @@ use varint::Wrote;
 
 // The first n bytes.
 fn print(text: &[u8], n: usize) {
-    let start = Part { at: 0, len: n };
-    io::write_all(STDOUT_FILENO, packer::show(text, start));
-}
-
-fn difference(a: usize, b: usize) -> usize
-    ensures { λ r. ⌜ r ≡ a - b ⌝ }
-{
-    if a < b {
-        return 0;
-    }
-    a - b
-}
-
-// At most the end.
-fn place(at: usize, used: usize, end: usize) -> usize {
-    if used < difference(end, at) {
-        return at + used;
-    }
-    end
+    io::write_all(STDOUT_FILENO, cases::window(text, 0, n));
 }
 
 // All of the body from its place on is at hand. A turn gives an event or ends; a call uses a byte or answers an event of a pending kind, of
@@ -44,16 +24,12 @@ fn replay(version: Version, body: &[u8], rows: &mut [i32], tens: &mut [i32], out
     let mut turns: usize = 0;
     while turns < 400000 {
         turns += 1;
-        let rest = Part {
-            at,
-            len: difference(body.len(), at),
-        };
-        let turned = replayer::turn(reader, packer::show(body, rest), rows, tens, out);
+        let turned = replayer::turn(reader, cases::window(body, at, body.len()), rows, tens, out);
         print(out, turned.filled);
         if turned.ended {
             return;
         }
-        at = place(at, turned.used, body.len());
+        at = cases::past(at, turned.used, body.len());
         let next = turned.reader;
         reader = next;
     }
