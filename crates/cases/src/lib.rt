@@ -1,8 +1,10 @@
-// The inputs of a test program: one behind the other, each after its length in one to three bytes, the low one first.
+// What test programs share. Their inputs stand one behind the other, each after its length in one to three bytes, the low one first.
 ghost use mathlib.Core.Path.{_≡_};
-ghost use Prim.Native.Nat.{_+_, _<_, _≤_};
+ghost use Prim.Native.Nat.{_+_, _-_, _<_, _≤_, min};
 ghost use lib.ListN.{length};
+ghost use Rattle.packer.specs.Parts.{part, shown};
 ghost use Rattle.cases.specs.Cases.{digitAt, caseAt};
+use packer::Part;
 use packer::PartRead;
 
 fn size(b: u8) -> usize
@@ -37,4 +39,39 @@ pub fn case_at(s: &[u8], at: usize, width: usize) -> PartRead
     let middle = digit_at(s, at, width, 1);
     let high = digit_at(s, at, width, 2);
     packer::read_raw(s, at + width, low + 256 * middle + 65536 * high)
+}
+
+pub fn difference(a: usize, b: usize) -> usize
+    ensures { λ r. ⌜ r ≡ a - b ⌝ }
+{
+    if a < b {
+        return 0;
+    }
+    a - b
+}
+
+// The bytes from a place to an end; none where they reach outside.
+pub fn window(s: &[u8], at: usize, end: usize) -> &[u8]
+    ensures { λ r. ⌜ now r ≡ shown (now (s .entry)) (part at (end - at)) ⌝ }
+{
+    packer::show(
+        s,
+        Part {
+            at,
+            len: difference(end, at),
+        },
+    )
+}
+
+// The place past the bytes that a call used, at most the end.
+pub fn past(at: usize, used: usize, end: usize) -> usize
+    ensures { λ r. ⌜ r ≡ min (at + used) end ⌝ }
+{
+    if end < at {
+        return end;
+    }
+    if end - at < used {
+        return end;
+    }
+    at + used
 }

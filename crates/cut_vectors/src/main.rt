@@ -7,7 +7,6 @@ use item::Version;
 use item::VersionOf;
 use libc::STDOUT_FILENO;
 use lines::Ending;
-use packer::Part;
 use packer::PartRead;
 use state::Answer;
 use state::Event;
@@ -17,8 +16,7 @@ use state::Scalars;
 use varint::Wrote;
 
 fn print_start(line: &[u8], n: usize) {
-    let start = Part { at: 0, len: n };
-    io::write_all(STDOUT_FILENO, packer::show(line, start));
+    io::write_all(STDOUT_FILENO, cases::window(line, 0, n));
 }
 
 fn print_line(event: Event, input: [i32; 10]) {
@@ -107,24 +105,6 @@ fn same_reader(a: Reader, b: Reader) -> bool {
     good::both(same_scalars(s, t), alike::same_entries(e, f))
 }
 
-fn difference(a: usize, b: usize) -> usize {
-    if a < b {
-        return 0;
-    }
-    a - b
-}
-
-// At most the end.
-fn place(at: usize, used: usize, end: usize) -> usize {
-    if end <= at {
-        return end;
-    }
-    if end - at <= used {
-        return end;
-    }
-    at + used
-}
-
 // Where a body stands: its reader with the place, the end of the bytes at hand, and whether the flag is on; or that it is read.
 struct Spot {
     reader: Reader,
@@ -173,11 +153,7 @@ fn ended(spot: Spot, ending: Ending) -> Spot {
 // One call, and the spot after it.
 fn call(spot: Spot, body: &[u8]) -> Spot {
     let reader = spot.reader;
-    let rest = Part {
-        at: spot.at,
-        len: difference(spot.end, spot.at),
-    };
-    let read = reader::read(reader, packer::show(body, rest), spot.last);
+    let read = reader::read(reader, cases::window(body, spot.at, spot.end), spot.last);
     let answer = read.answer;
     let next = read.reader;
     let input = read.input;
@@ -186,7 +162,7 @@ fn call(spot: Spot, body: &[u8]) -> Spot {
             print_line(event, input);
             Spot {
                 reader: next,
-                at: place(spot.at, used, spot.end),
+                at: cases::past(spot.at, used, spot.end),
                 end: spot.end,
                 last: spot.last,
                 over: false,

@@ -4,7 +4,6 @@ use item::Version;
 use item::VersionOf;
 use libc::STDOUT_FILENO;
 use lines::Ending;
-use packer::Part;
 use packer::PartRead;
 use refusal::Refusal;
 use state::Answer;
@@ -14,8 +13,7 @@ use varint::Wrote;
 
 // The first n bytes.
 fn print_start(line: &[u8], n: usize) {
-    let start = Part { at: 0, len: n };
-    io::write_all(STDOUT_FILENO, packer::show(line, start));
+    io::write_all(STDOUT_FILENO, cases::window(line, 0, n));
 }
 
 fn print_line(event: Event, input: [i32; 10]) {
@@ -42,23 +40,13 @@ fn read_body(version: Version, body: &[u8]) {
     let mut turns: usize = 0;
     while turns < 400000 {
         turns += 1;
-        if body.len() < at {
-            return;
-        }
-        let rest = Part {
-            at,
-            len: body.len() - at,
-        };
-        let read = reader::read(reader, packer::show(body, rest), true);
+        let read = reader::read(reader, cases::window(body, at, body.len()), true);
         let answer = read.answer;
         let input = read.input;
         match answer {
             Answer::Event { event, used } => {
                 print_line(event, input);
-                if body.len() - at < used {
-                    return;
-                }
-                at = at + used;
+                at = cases::past(at, used, body.len());
             }
             Answer::More => return,
             Answer::Finish { used: _ } => {

@@ -32,7 +32,7 @@ fn say_numbers(word: &[u8], ns: &[i32]) {
     let Wrote::Past(n) = lines::write_plain(word, ns, &mut line, 0) else {
         return;
     };
-    say(packer::show(&line, Part { at: 0, len: n }));
+    say(cases::window(&line, 0, n));
 }
 
 fn wide(b: u8) -> i32 {
@@ -231,67 +231,35 @@ fn try_scalars(name: &[u8], version: Version, tick: i32, largest: i32, pending: 
     try_reader(name, scalars, no_entries());
 }
 
+fn try_tick(name: &[u8], tick: i32) {
+    try_scalars(name, Version::V1, tick, -1, Pending::NoKind);
+}
+
+fn try_largest(name: &[u8], largest: i32) {
+    try_scalars(name, Version::V1, 0, largest, Pending::NoKind);
+}
+
+fn try_pending(name: &[u8], version: Version, kind: Kind) {
+    try_scalars(name, version, 0, -1, Pending::Is(kind));
+}
+
 fn bad_scalars() {
-    try_scalars(b"tick 0", Version::V1, 0, -1, Pending::NoKind);
-    try_scalars(b"tick -1", Version::V1, -1, -1, Pending::NoKind);
-    try_scalars(
-        b"tick -2147483648",
-        Version::V1,
-        -2147483648,
-        -1,
-        Pending::NoKind,
-    );
-    try_scalars(b"largest -1", Version::V1, 0, -1, Pending::NoKind);
-    try_scalars(b"largest -2", Version::V1, 0, -2, Pending::NoKind);
-    try_scalars(
-        b"largest -2147483648",
-        Version::V1,
-        0,
-        -2147483648,
-        Pending::NoKind,
-    );
-    try_scalars(
-        b"pending diff of 0",
-        Version::V1,
-        0,
-        -1,
-        Pending::Is(Kind::PlayerDiff(0)),
-    );
-    try_scalars(
-        b"pending diff of -1",
-        Version::V1,
-        0,
-        -1,
-        Pending::Is(Kind::PlayerDiff(-1)),
-    );
-    try_scalars(
+    try_tick(b"tick 0", 0);
+    try_tick(b"tick -1", -1);
+    try_tick(b"tick -2147483648", -2147483648);
+    try_largest(b"largest -1", -1);
+    try_largest(b"largest -2", -2);
+    try_largest(b"largest -2147483648", -2147483648);
+    try_pending(b"pending diff of 0", Version::V1, Kind::PlayerDiff(0));
+    try_pending(b"pending diff of -1", Version::V1, Kind::PlayerDiff(-1));
+    try_pending(
         b"pending diff of -2147483648",
         Version::V2,
-        0,
-        -1,
-        Pending::Is(Kind::PlayerDiff(-2147483648)),
+        Kind::PlayerDiff(-2147483648),
     );
-    try_scalars(
-        b"pending new of -1",
-        Version::V1,
-        0,
-        -1,
-        Pending::Is(Kind::PlayerNew(-1)),
-    );
-    try_scalars(
-        b"pending extension in version 2",
-        Version::V2,
-        0,
-        -1,
-        Pending::Is(Kind::Ex),
-    );
-    try_scalars(
-        b"pending extension in version 1",
-        Version::V1,
-        0,
-        -1,
-        Pending::Is(Kind::Ex),
-    );
+    try_pending(b"pending new of -1", Version::V1, Kind::PlayerNew(-1));
+    try_pending(b"pending extension in version 2", Version::V2, Kind::Ex);
+    try_pending(b"pending extension in version 1", Version::V1, Kind::Ex);
 }
 
 // A reader and a board in tick 7 with these entries.
@@ -355,18 +323,14 @@ fn ended(version: Version, body: &[u8]) -> Reader {
     let mut turns: usize = 0;
     while turns < 100 {
         turns += 1;
-        let got = reader::read(
-            reader,
-            packer::show(body, part(at, difference(body.len(), at))),
-            true,
-        );
+        let got = reader::read(reader, cases::window(body, at, body.len()), true);
         let answer = got.answer;
         let next = got.reader;
         let Answer::Event { event: _, used } = answer else {
             say_answer(answer);
             return next;
         };
-        at = place(at, used, body.len());
+        at = cases::past(at, used, body.len());
         reader = next;
     }
     reader
@@ -383,24 +347,6 @@ fn again(reader: Reader) {
 fn closed(name: &[u8], version: Version, body: &[u8]) {
     say(name);
     again(ended(version, body));
-}
-
-fn difference(a: usize, b: usize) -> usize {
-    if a < b {
-        return 0;
-    }
-    a - b
-}
-
-// At most the end.
-fn place(at: usize, used: usize, end: usize) -> usize {
-    if end <= at {
-        return end;
-    }
-    if end - at <= used {
-        return end;
-    }
-    at + used
 }
 
 fn closings() {

@@ -1,14 +1,12 @@
 // Replays bodies by turns, with room for a few events only, and prints their lines. Standard input holds inputs one behind the other, each
 // after its length in three bytes, the low one first: a version byte, then a body.
 ghost use mathlib.Core.Path.{_≡_};
-ghost use Prim.Native.Nat.{_-_};
 ghost use lib.ListN.{length};
 use feed::Hand;
 use item::Version;
 use item::VersionOf;
 use libc::STDOUT_FILENO;
 use lines::Ending;
-use packer::Part;
 use packer::PartRead;
 use refusal::Refusal;
 use state::Reader;
@@ -16,17 +14,7 @@ use varint::Wrote;
 
 // The first n bytes.
 fn print(text: &[u8], n: usize) {
-    let start = Part { at: 0, len: n };
-    io::write_all(STDOUT_FILENO, packer::show(text, start));
-}
-
-fn difference(a: usize, b: usize) -> usize
-    ensures { λ r. ⌜ r ≡ a - b ⌝ }
-{
-    if a < b {
-        return 0;
-    }
-    a - b
+    io::write_all(STDOUT_FILENO, cases::window(text, 0, n));
 }
 
 // What is at hand of a body of a length after more of it was wanted: as much again and a byte, then its end.
@@ -36,7 +24,7 @@ fn come(hand: Hand, wants: bool, len: usize) -> Hand {
     }
     let at = hand.at;
     let end = hand.end;
-    let again = difference(end, at);
+    let again = cases::difference(end, at);
     if len <= end {
         return Hand {
             at,

@@ -7,7 +7,6 @@ use back::BoardTick;
 use item::Version;
 use item::VersionOf;
 use libc::STDOUT_FILENO;
-use packer::Part;
 use packer::PartRead;
 use reader::ReadAnswer;
 use state::Answer;
@@ -23,8 +22,7 @@ struct Spot {
 
 // The first n bytes.
 fn print_start(line: &[u8], n: usize) {
-    let start = Part { at: 0, len: n };
-    io::write_all(STDOUT_FILENO, packer::show(line, start));
+    io::write_all(STDOUT_FILENO, cases::window(line, 0, n));
 }
 
 fn print_line(event: Event, input: [i32; 10]) {
@@ -39,14 +37,7 @@ fn print_line(event: Event, input: [i32; 10]) {
 fn read_at(spot: Spot, body: &[u8]) -> ReadAnswer {
     let reader = spot.reader;
     let at = spot.at;
-    if body.len() < at {
-        return reader::read(reader, &body[..0], true);
-    }
-    let rest = Part {
-        at,
-        len: body.len() - at,
-    };
-    reader::read(reader, packer::show(body, rest), true)
+    reader::read(reader, cases::window(body, at, body.len()), true)
 }
 
 // The bytes that an event used; a call without an event ends the walk.
@@ -62,15 +53,6 @@ fn used_in(answer: Answer) -> Used {
         Answer::Finish { used: _ } => Used::NoEvent,
         Answer::Refused(_) => Used::NoEvent,
     }
-}
-
-fn add(a: usize, b: usize) -> usize {
-    if a < 65536 {
-        if b < 65536 {
-            return a + b;
-        }
-    }
-    65536
 }
 
 // How many events the body has before a finish or a refusal.
@@ -89,7 +71,7 @@ fn count_events(version: Version, body: &[u8]) -> usize {
         };
         spot = Spot {
             reader: next,
-            at: add(spot.at, used),
+            at: cases::past(spot.at, used, body.len()),
         };
         n += 1;
     }
@@ -112,7 +94,7 @@ fn after(version: Version, body: &[u8], n: usize) -> Spot {
         };
         spot = Spot {
             reader: next,
-            at: add(spot.at, used),
+            at: cases::past(spot.at, used, body.len()),
         };
         k += 1;
     }

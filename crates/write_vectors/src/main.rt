@@ -29,30 +29,20 @@ fn print_bytes(b: &[u8]) {
     }
 }
 
-fn difference(a: usize, b: usize) -> usize {
-    if a < b {
-        return 0;
-    }
-    a - b
-}
-
 fn part(at: usize, len: usize) -> Part {
     Part { at, len }
 }
 
-// Whether two targets are the same at a place and length.
-fn same_at(a: &[u8], b: &[u8], at: usize, len: usize) -> bool {
-    check::same(
-        packer::show(a, part(at, len)),
-        packer::show(b, part(at, len)),
-    )
+// Whether two targets are the same from a place to an end.
+fn same_to(a: &[u8], b: &[u8], at: usize, end: usize) -> bool {
+    check::same(cases::window(a, at, end), cases::window(b, at, end))
 }
 
 // Into a target that has one byte too few: refused 9, and the target stays.
 fn write_short(version: Version, value: Record, w: &[u8], size: usize) {
     let before = [165u8; 512];
     let mut out = [165u8; 512];
-    match record_writer::write_record(version, value, w, &mut out, difference(513, size)) {
+    match record_writer::write_record(version, value, w, &mut out, cases::difference(513, size)) {
         Wrote::Past(_) => say(b" written into a short target"),
         Wrote::Refused(r) => {
             if r.number() != 9 {
@@ -69,7 +59,7 @@ fn write_short(version: Version, value: Record, w: &[u8], size: usize) {
 fn write_full(version: Version, value: Record, w: &[u8], bytes: &[u8]) {
     let before = [165u8; 512];
     let mut out = [165u8; 512];
-    let at = difference(512, bytes.len());
+    let at = cases::difference(512, bytes.len());
     let Wrote::Past(end) = record_writer::write_record(version, value, w, &mut out, at) else {
         say(b" refused a target that it fills");
         return;
@@ -77,10 +67,10 @@ fn write_full(version: Version, value: Record, w: &[u8], bytes: &[u8]) {
     if end != 512 {
         say(b" another size");
     }
-    if !check::same(packer::show(&out, part(at, bytes.len())), bytes) {
+    if !check::same(cases::window(&out, at, 512), bytes) {
         say(b" other bytes at another place");
     }
-    if !same_at(&out, &before, 0, at) {
+    if !same_to(&out, &before, 0, at) {
         say(b" the target is changed before the record");
     }
 }
@@ -91,15 +81,14 @@ fn write_line(version: Version, value: Record, w: &[u8]) {
     let mut out = [165u8; 512];
     match record_writer::write_record(version, value, w, &mut out, 3) {
         Wrote::Past(end) => {
-            let size = difference(end, 3);
-            let bytes = packer::show(&out, part(3, size));
+            let bytes = cases::window(&out, 3, end);
             print_bytes(bytes);
             write_full(version, value, w, bytes);
-            write_short(version, value, w, size);
-            if !same_at(&out, &before, 0, 3) {
+            write_short(version, value, w, bytes.len());
+            if !same_to(&out, &before, 0, 3) {
                 say(b" the target is changed before the record");
             }
-            if !same_at(&out, &before, end, difference(512, end)) {
+            if !same_to(&out, &before, end, 512) {
                 say(b" the target is changed behind the record");
             }
         }
@@ -186,132 +175,92 @@ fn commands() {
     );
 }
 
-// Strings of each record that has one, over the bytes `a`, 00, `b` and 16 more.
-fn try_strings(name: &[u8], p: Part) {
-    let w = b"a\0b0123456789abcdef";
-    say(name);
-    say(b":\n");
-    try_item(b"Drop", Version::V1, Item::Drop { cid: 5, reason: p }, w);
-    try_item(
-        b"AuthInit",
-        Version::V2,
-        Item::AuthInit {
-            cid: 5,
-            level: 6,
-            identity: p,
-        },
-        w,
-    );
-    try_item(
-        b"AuthLogin",
-        Version::V2,
-        Item::AuthLogin {
-            cid: 5,
-            level: 6,
-            identity: p,
-        },
-        w,
-    );
-    try_item(
-        b"Ddnetver",
-        Version::V2,
-        Item::Ddnetver {
-            cid: 5,
-            connection_id: 3,
-            ddnet_version: 6,
-            ddnet_version_str: p,
-        },
-        w,
-    );
-    try_item(
-        b"PlayerName",
-        Version::V2,
-        Item::PlayerName { cid: 5, name: p },
-        w,
-    );
-    try_item(
-        b"TeamLoadSuccess",
-        Version::V2,
-        Item::TeamLoadSuccess {
-            team: 5,
-            save_uuid: 3,
-            save: p,
-        },
-        w,
-    );
-    try_item(
-        b"TeamSaveSuccess",
-        Version::V2,
-        Item::TeamSaveSuccess {
-            team: 5,
-            save_uuid: 3,
-            save: p,
-        },
-        w,
-    );
+// A record over the bytes `a`, 00, `b` and 16 more.
+fn try_lent(name: &[u8], item: Item) {
+    try_item(name, Version::V2, item, b"a\0b0123456789abcdef");
 }
 
-// Data of each record that has some; an identifier of UnknownEx.
-fn try_data(name: &[u8], p: Part) {
-    let w = b"a\0b0123456789abcdef";
-    say(name);
-    say(b":\n");
-    try_item(b"Message", Version::V1, Item::Message { cid: 5, msg: p }, w);
-    try_item(b"Antibot", Version::V2, Item::Antibot { data: p }, w);
-    try_item(
-        b"UnknownEx",
-        Version::V2,
-        Item::UnknownEx { uuid: 3, data: p },
-        w,
-    );
+fn try_auths(p: Part) {
+    let init = Item::AuthInit {
+        cid: 5,
+        level: 6,
+        identity: p,
+    };
+    let login = Item::AuthLogin {
+        cid: 5,
+        level: 6,
+        identity: p,
+    };
+    try_lent(b"AuthInit", init);
+    try_lent(b"AuthLogin", login);
 }
 
 // The 16 bytes of an identifier begin at a place.
-fn try_places(name: &[u8], place: usize) {
-    let w = b"a\0b0123456789abcdef";
-    let p = part(0, 1);
-    say(name);
-    say(b":\n");
-    try_item(
-        b"Ddnetver",
-        Version::V2,
-        Item::Ddnetver {
-            cid: 5,
-            connection_id: place,
-            ddnet_version: 6,
-            ddnet_version_str: p,
-        },
-        w,
-    );
-    try_item(
-        b"TeamLoadSuccess",
-        Version::V2,
-        Item::TeamLoadSuccess {
-            team: 5,
-            save_uuid: place,
-            save: p,
-        },
-        w,
-    );
-    try_item(
-        b"TeamSaveSuccess",
-        Version::V2,
-        Item::TeamSaveSuccess {
-            team: 5,
-            save_uuid: place,
-            save: p,
-        },
-        w,
-    );
-    try_item(
+fn try_ddnetver(place: usize, p: Part) {
+    let item = Item::Ddnetver {
+        cid: 5,
+        connection_id: place,
+        ddnet_version: 6,
+        ddnet_version_str: p,
+    };
+    try_lent(b"Ddnetver", item);
+}
+
+fn try_saves(place: usize, p: Part) {
+    let load = Item::TeamLoadSuccess {
+        team: 5,
+        save_uuid: place,
+        save: p,
+    };
+    let save = Item::TeamSaveSuccess {
+        team: 5,
+        save_uuid: place,
+        save: p,
+    };
+    try_lent(b"TeamLoadSuccess", load);
+    try_lent(b"TeamSaveSuccess", save);
+}
+
+fn try_unknown(place: usize, p: Part) {
+    try_lent(
         b"UnknownEx",
-        Version::V2,
         Item::UnknownEx {
             uuid: place,
             data: p,
         },
-        w,
     );
+}
+
+fn title(name: &[u8]) {
+    say(name);
+    say(b":\n");
+}
+
+// Each record that has a string.
+fn try_strings(name: &[u8], p: Part) {
+    title(name);
+    try_lent(b"Drop", Item::Drop { cid: 5, reason: p });
+    try_auths(p);
+    try_ddnetver(3, p);
+    try_lent(b"PlayerName", Item::PlayerName { cid: 5, name: p });
+    try_saves(3, p);
+}
+
+// Each record that has data.
+fn try_data(name: &[u8], p: Part) {
+    title(name);
+    try_lent(b"Message", Item::Message { cid: 5, msg: p });
+    try_lent(b"Antibot", Item::Antibot { data: p });
+    try_unknown(3, p);
+}
+
+// Each record that has an identifier.
+fn try_places(name: &[u8], place: usize) {
+    let a = part(0, 1);
+    title(name);
+    try_ddnetver(place, a);
+    try_saves(place, a);
+    try_unknown(place, a);
 }
 
 fn parts() {
