@@ -1,4 +1,5 @@
-// What counting the events of a body takes, by single calls (count_each) and by calls of many events (count_many).
+// What counting the events of a body takes: by single calls (count_each), by calls on lent memory (count_lent), by calls of many events
+// (count_many).
 ghost use Prim.Native.Nat.{_+_, min};
 ghost use mathlib.Core.Path.{_≡_};
 ghost use Rattle.count.specs.Count.{versionIf};

@@ -7,12 +7,13 @@ use native.Mathlib.Omega.{arith}
 use lib.ListN.{length, drop, length-take, length-drop}
 use lib.IntN.{ℤ}
 use Rattle.item.specs.Said.{Said, gives, more, finish, refuses}
+use Rattle.item.specs.declared.Version.{Version}
 use Rattle.state.specs.State.{emptyReader}
 use Rattle.state.specs.Reading.{Event, readCall, readerAfter}
 use Rattle.state.specs.declared.Reader.{Reader}
 use Rattle.lines.specs.Lines.{lineOf}
-use Rattle.replayer.specs.Replay.{full, windowOf, isLast, printed, replayFrom, enough}
-use Rattle.replayer.specs.Laws.{EnoughCalls, TurnsPrintText}
+use Rattle.replayer.specs.Replay.{full, windowOf, isLast, printed, replayFrom, enough, replayText}
+use Rattle.replayer.specs.Laws.{turnsText, AllPrinted, EnoughCalls, TurnsPrintText}
 use Rattle.replayer.proofs.Longer.{uses-within}
 use Rattle.replayer.proofs.Whole.{turns-replay}
 use Rattle.replayer.proofs.Enough.{rank, rank-le, call-falls}
@@ -41,9 +42,11 @@ stable (suc c) k r body h =
 pub enough-calls : EnoughCalls
 enough-calls r body k = stable (enough body) k r body (omega (arith, rank-le (r .scalars)))
 
-pub turns-print-text : TurnsPrintText
-turns-print-text v ts body h =
+pub printed-text : (v : Version) (body text : List ℕ) → AllPrinted (emptyReader v) body text → text ≡ replayText v body
+printed-text v body text a =
     let r = emptyReader v in
-    let a = turns-replay ts r body h in
     let e : a .calls + suc (enough body) ≡ enough body + (a .calls + 1) = omega arith in
     sym (a .same (enough body)) ∙ ap (λ (n : ℕ). replayFrom n r body) e ∙ enough-calls r body (a .calls + 1)
+
+pub turns-print-text : TurnsPrintText
+turns-print-text v ts body h = printed-text v body (turnsText ts (emptyReader v) body) (turns-replay ts (emptyReader v) body h)

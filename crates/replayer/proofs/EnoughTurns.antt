@@ -40,7 +40,7 @@ by-said r w last more s next f = let q = ap (λ (z : Reader). rank (z .scalars))
 by-said r w last (finish n) s next f = tt
 by-said r w last (refuses k vs) s next f = tt
 
-run-falls : (n : ℕ) (r : Reader) (w : List ℕ) (last : Bool) → Falls (rank (r .scalars)) (length w) (calls n r w last)
+pub run-falls : (n : ℕ) (r : Reader) (w : List ℕ) (last : Bool) → Falls (rank (r .scalars)) (length w) (calls n r w last)
 unfolding calls
 run-falls zero r w last = (omega arith, omega arith)
 run-falls (suc n) r w last =
@@ -54,7 +54,7 @@ run-falls (suc n) r w last =
     (omega (arith, length-drop m w)) (run-falls n (readerAfter t) (drop m w) last))
 
 -- so no more is left after a turn that does not end the replay
-left-after : (s : Bool) (h : Halt) (b size : ℕ) (run : Run) → ends s h (length (run .seen)) ≡ false → Left h b run size
+pub left-after : (s : Bool) (h : Halt) (b size : ℕ) (run : Run) → ends s h (length (run .seen)) ≡ false → Left h b run size
     → (rank (run .reader .scalars) + length (run .seen) ≤ b + 5 * run .used) × (run .used ≤ size)
 left-after s isFull b size run e l = l
 left-after s wantsMore b size run e l = l
@@ -62,14 +62,14 @@ left-after s finishes b size run e l = absurd (false≢true (sym e))
 left-after s (isRefused k vs) b size run e l = absurd (false≢true (sym e))
 
 -- how much is left
-abbrev M : Reader → List ℕ → ℕ
+abbrev pub M : Reader → List ℕ → ℕ
 M r body = 5 * length body + rank (r .scalars)
 
 hand-le : (a : Arrived) (body : List ℕ) → length (windowOf (atHand a body)) ≤ length body
 hand-le (some n) body = omega (arith, length-take full (take n body), length-take n body)
 hand-le all body = omega (arith, length-take full body)
 
-sum-le : (used left b c d seen : ℕ) → used ≤ left → c + seen ≤ b + 5 * used → d ≡ left - used → 5 * d + c + seen ≤ 5 * left + b
+pub sum-le : (used left b c d seen : ℕ) → used ≤ left → c + seen ≤ b + 5 * used → d ≡ left - used → 5 * d + c + seen ≤ 5 * left + b
 sum-le used left b c d seen u f e = omega arith
 
 falls-by-events : (t : Turn) (r : Reader) (body : List ℕ) → over t r body ≡ false

@@ -9,3 +9,4 @@ pub mod Ahead
 pub mod Enough
 pub mod Bound
 pub mod EnoughTurns
+pub mod Rounds

@@ -275,17 +275,19 @@ not-ended : (ended s : Bool) → s ≡ true → cond ended s false ≡ false →
 not-ended true s e f = absurd (false≢true (sym f ∙ e))
 not-ended false s e f = refl
 
-pub wants-at-more : WantsAtMore
-wants-at-more t r body e =
-    let bytes = atHand (t .arrived) body in
-    let ended = hasEnded (t .arrived) in
-    let run = runOf t r body in
+pub wants-more : (n : ℕ) (r : Reader) (bytes : List ℕ) (ended : Bool) → let run = turnRun n r bytes ended in
+    wants (isShort bytes) (run .halt) ≡ true → (ended ≡ false) × (readCall (run .reader) (drop (run .used) bytes) false .said ≡ more)
+wants-more n r bytes ended e =
+    let run = turnRun n r bytes ended in
     let w = wants-is (isShort bytes) (run .halt) e in
     let l = ltb-true (length bytes) full (w .0) in
-    let m = at-more (suc (t .room)) r (windowOf bytes) (isLast ended bytes) (w .1) in
+    let m = at-more n r (windowOf bytes) (isLast ended bytes) (w .1) in
     let f = more-not-last (run .reader) (drop (run .used) (windowOf bytes)) (isLast ended bytes) m in
     let e : take full bytes ≡ bytes = take-all full bytes (omega arith) in (
       not-ended ended (isShort bytes) (w .0) f,
       ap (λ (l : List ℕ). readCall (run .reader) (drop (run .used) l) false .said) (sym e)
           ∙ ap (λ (b : Bool). readCall (run .reader) (drop (run .used) (windowOf bytes)) b .said) (sym f) ∙ m,
     )
+
+pub wants-at-more : WantsAtMore
+wants-at-more t r body = wants-more (suc (t .room)) r (atHand (t .arrived) body) (hasEnded (t .arrived))

@@ -1,3 +1,4 @@
 pub mod Replay
 pub mod Rows
 pub mod Laws
+pub mod Rounds

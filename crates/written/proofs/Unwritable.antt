@@ -127,6 +127,18 @@ module _ (v : Version) (s : List ℕ) (ten : List ℤ) (xs : Args) where
       let ms = map (mean s) (map num ten) in
       rw (none-of isLargeDt (λ w. refl) 10 ms, none-of holdsZero (λ w. refl) 10 ms, none-of isLongData (λ w. refl) 10 ms, all-of 10 ms, ints-inside s ten)
 
+  message-form : (cid : ℤ) (msg : Part) → Same (items.Message cid msg)
+  unfolding recordWritable hasForm contentWritable
+  message-form cid msg = message (within msg) (isData (shown s msg))
+
+  drop-form : (cid : ℤ) (reason : Part) → Same (items.Drop cid reason)
+  unfolding recordWritable hasForm contentWritable
+  drop-form cid reason = drop (within reason) (clean reason)
+
+  auth-form : (cid level : ℤ) (identity : Part) → Same (items.AuthInit cid level identity)
+  unfolding recordWritable hasForm contentWritable extensions payloadAt
+  auth-form cid level identity = text (within identity) (hasEx v) (clean identity) (loadIs 1 (items.AuthInit cid level identity))
+
   form : (i : Item) → Same i
   unfolding recordWritable hasForm contentWritable extensions payloadAt
   form (items.PlayerDiff cid dx dy) = one (nonNeg cid)
@@ -136,15 +148,15 @@ module _ (v : Version) (s : List ℕ) (ten : List ℤ) (xs : Args) where
   form (items.PlayerOld cid) = refl
   form (items.InputDiff cid) = input cid
   form (items.InputNew cid) = input cid
-  form (items.Message cid msg) = message (within msg) (isData (shown s msg))
+  form (items.Message cid msg) = message-form cid msg
   form (items.Join cid) = refl
-  form (items.Drop cid reason) = drop (within reason) (clean reason)
+  form (items.Drop cid reason) = drop-form cid reason
   form (items.ConsoleCommand cid flags cmd) =
       let ps = take (xs .count) (xs .parts) in
       command (leb (xs .count) 16) (leb (length (map (shown s) ps)) 16) (within cmd) (allInside s ps) (clean cmd) (allNoZero (map (shown s) ps))
       (few-args (xs .count) (shown s) (xs .parts))
   form (items.Antibot load) = all-data (within load) (hasEx v) (isData (shown s load))
-  form (items.AuthInit cid level identity) = text (within identity) (hasEx v) (clean identity) (loadIs 1 (items.AuthInit cid level identity))
+  form (items.AuthInit cid level identity) = auth-form cid level identity
   form (items.AuthLogin cid level identity) = text (within identity) (hasEx v) (clean identity) (loadIs 2 (items.AuthLogin cid level identity))
   form (items.AuthLogout cid) = ints (hasEx v) (loadIs 3 (items.AuthLogout cid))
   form (items.Ddnetver cid id version name) =

@@ -1,0 +1,177 @@
+-- The program's rounds print the text of a body, in whatever pieces it came. Assumes nothing.
+use Prim.Native.Nat.{ℕ, zero, suc, _+_, _*_, _-_, _≤_, _<_}
+use mathlib.Core.Path.{_≡_, refl, sym, _∙_, ap, subst}
+use mathlib.Core.Bool.{Bool, true, false, cond, false≢true}
+use mathlib.Core.List.{List, [], _∷_, _++_, append-assoc, append-nil}
+use native.Mathlib.Omega.{arith}
+use lib.ListN.{length, drop, length-take, length-drop, length-append}
+use lib.Seq.{take-append-seam, drop-append-le}
+use Rattle.num.proofs.Cases.{by-bool}
+use Rattle.item.specs.Said.{Said, gives, more, finish, refuses}
+use Rattle.state.specs.State.{emptyReader}
+use Rattle.state.specs.Reading.{Event, readCall, readerAfter}
+use Rattle.state.specs.declared.Reader.{Reader}
+use Rattle.many.specs.Many.{Seen, Run, seenBy, before, onSaid, calls}
+use Rattle.replayer.specs.Replay.{full, windowOf, isShort, isLast, ends, wants, runText, turnRun, replayFrom}
+use Rattle.replayer.specs.Laws.{some, all, AllPrinted}
+use Rattle.replayer.specs.Rounds.{Input, readOn, inputAfter, roundOf, lastRound, wantsRead, roundsText, joined, RoundsPrintText}
+use Rattle.replayer.proofs.Whole.{turn-replays, wants-more}
+use Rattle.replayer.proofs.Bound.{printed-text}
+use Rattle.replayer.proofs.Enough.{rank, rank-le}
+use Rattle.replayer.proofs.EnoughTurns.{run-falls, left-after, sum-le, M}
+
+-- all the bytes that are left
+abbrev bodyOf : Input → List ℕ
+bodyOf i = i .hand ++ joined (i .pieces)
+
+-- no piece comes where the input has ended
+abbrev Sound : Input → Type 0
+Sound i = i .ended ≡ true → i .pieces ≡ []
+
+-- ---- one round
+
+abbrev Replays : ℕ → ℕ → Reader → List ℕ → List ℕ → Bool → Type 0
+Replays n k r body bytes ended =
+    let run = turnRun (suc n) r bytes ended in
+    replayFrom (length (run .seen) + suc k) r body
+    ≡ runText (isShort bytes) run
+    ++ cond (ends (isShort bytes) (run .halt) (length (run .seen))) [] (replayFrom (suc k) (run .reader) (drop (run .used) body))
+
+by-end : (n k : ℕ) (r : Reader) (hand : List ℕ) (ended : Bool) (ps : List (List ℕ)) → (ended ≡ true → ps ≡ [])
+    → Replays n k r (hand ++ joined ps) hand ended
+unfolding joined
+by-end n k r hand true ps s =
+    let e : hand ++ joined ps ≡ hand = ap (λ (l : List (List ℕ)). hand ++ joined l) (s refl) ∙ append-nil hand in
+    subst (λ (b : List ℕ). Replays n k r b hand true) (sym e) (turn-replays (record { room = n; arrived = all }) k r hand)
+by-end n k r hand false ps s =
+    subst (λ (b : List ℕ). Replays n k r (hand ++ joined ps) b false) (take-append-seam hand (joined ps))
+    (turn-replays (record { room = n; arrived = some (length hand) }) k r (hand ++ joined ps))
+
+-- a round that is not the last uses bytes at hand, and less is left for each event
+module _ (n : ℕ) (r : Reader) (i : Input) (o : lastRound i (roundOf n r i) ≡ false) where
+  abbrev run : Run
+  run = roundOf n r i
+
+  left : (rank (run .reader .scalars) + length (run .seen) ≤ rank (r .scalars) + 5 * run .used) × (run .used ≤ length (windowOf (i .hand)))
+  left =
+      left-after (isShort (i .hand)) (run .halt) (rank (r .scalars)) (length (windowOf (i .hand))) run o
+      (run-falls (suc n) r (windowOf (i .hand)) (isLast (i .ended) (i .hand)))
+
+  used-le : run .used ≤ length (i .hand)
+  used-le = omega (arith, left .1, length-take full (i .hand))
+
+  rest-is : drop (run .used) (bodyOf i) ≡ drop (run .used) (i .hand) ++ joined (i .pieces)
+  rest-is = drop-append-le (run .used) (i .hand) (joined (i .pieces)) used-le
+
+  falls : M (run .reader) (drop (run .used) (bodyOf i)) + length (run .seen) ≤ M r (bodyOf i)
+  falls =
+      sum-le (run .used) (length (bodyOf i)) (rank (r .scalars)) (rank (run .reader .scalars)) (length (drop (run .used) (bodyOf i)))
+      (length (run .seen)) (omega (arith, used-le, length-append (i .hand) (joined (i .pieces)))) (left .0) (length-drop (run .used) (bodyOf i))
+
+-- ---- the input after it
+
+body-after : (w : Bool) (used : ℕ) (hand : List ℕ) (ended : Bool) (ps : List (List ℕ))
+    → drop used hand ++ joined ps ≡ bodyOf (inputAfter w used (record { hand = hand; ended = ended; pieces = ps }))
+unfolding joined
+body-after true used hand ended [] = refl
+body-after true used hand ended (p ∷ ps) = sym (append-assoc (drop used hand) p (joined ps))
+body-after false used hand ended ps = refl
+
+sound-after : (w : Bool) (used : ℕ) (hand : List ℕ) (ended : Bool) (ps : List (List ℕ)) → (ended ≡ true → ps ≡ [])
+    → Sound (inputAfter w used (record { hand = hand; ended = ended; pieces = ps }))
+sound-after true used hand ended [] s e = refl
+sound-after true used hand ended (p ∷ ps) s e = absurd (false≢true e)
+sound-after false used hand ended ps s e = s e
+
+-- ---- how many rounds there may be
+
+reads : Bool → ℕ
+reads true = 0
+reads false = 1
+
+abbrev size : Reader → Input → ℕ
+size r i = M r (bodyOf i) + length (i .pieces) + reads (i .ended)
+
+-- a round that neither ends the replay nor wants more gives an event
+some-event : (s : Bool) (a : Said Event) (x : Event → ℕ → Seen) (next : Event → ℕ → Run) (left : Reader)
+    → let run = onSaid a (λ e m. before (x e m) (next e m)) left in
+    ends s (run .halt) (length (run .seen)) ≡ false → wants s (run .halt) ≡ false → 1 ≤ length (run .seen)
+some-event s (gives e m) x next left h w = omega arith
+some-event true more x next left h w = absurd (false≢true (sym w))
+some-event false more x next left h w = absurd (false≢true (sym h))
+some-event s (finish m) x next left h w = absurd (false≢true (sym h))
+some-event s (refuses k vs) x next left h w = absurd (false≢true (sym h))
+
+goes-on : (s : Bool) (n : ℕ) (r : Reader) (w : List ℕ) (last : Bool) → let run = calls (suc n) r w last in
+    ends s (run .halt) (length (run .seen)) ≡ false → wants s (run .halt) ≡ false → 1 ≤ length (run .seen)
+unfolding calls
+goes-on s n r w last =
+    let t = readCall r w last in
+    some-event s (t .said) (λ e m. seenBy r t e m) (λ e m. calls n (readerAfter t) (drop m w) last) (readerAfter t)
+
+-- a read that is wanted is one fewer to come
+after-read : (used : ℕ) (hand : List ℕ) (ended : Bool) (ps : List (List ℕ)) → ended ≡ false
+    → let i = inputAfter true used (record { hand = hand; ended = ended; pieces = ps }) in
+    length (i .pieces) + reads (i .ended) < length ps + reads ended
+unfolding reads
+after-read used hand ended [] e = rw e (omega arith)
+after-read used hand ended (p ∷ ps) e = rw e (omega arith)
+
+smaller : (w : Bool) (n : ℕ) (r : Reader) (i : Input) → lastRound i (roundOf n r i) ≡ false → wantsRead i (roundOf n r i) ≡ w
+    → size (roundOf n r i .reader) (inputAfter w (roundOf n r i .used) i) < size r i
+smaller true n r i o e =
+    let run = roundOf n r i in
+    let b = ap (M (run .reader)) (rest-is n r i o ∙ body-after true (run .used) (i .hand) (i .ended) (i .pieces)) in
+    omega (arith, falls n r i o, b, after-read (run .used) (i .hand) (i .ended) (i .pieces) (wants-more (suc n) r (i .hand) (i .ended) e .0))
+smaller false n r i o e =
+    let run = roundOf n r i in
+    let b = ap (M (run .reader)) (rest-is n r i o ∙ body-after false (run .used) (i .hand) (i .ended) (i .pieces)) in
+    omega (arith, falls n r i o, b, goes-on (isShort (i .hand)) n r (windowOf (i .hand)) (isLast (i .ended) (i .hand)) o e)
+
+-- ---- rounds one behind the other
+
+last-of-all : (k n : ℕ) (r : Reader) (i : Input) → Sound i → lastRound i (roundOf n r i) ≡ true
+    → AllPrinted r (bodyOf i) (roundsText (suc k) n r i)
+unfolding roundsText
+last-of-all k n r i s o =
+    record { calls = length (roundOf n r i .seen); same = λ j. by-end n j r (i .hand) (i .ended) (i .pieces) s ∙ rw o }
+
+one-of-many : (k n : ℕ) (r : Reader) (i next : Input) → Sound i → lastRound i (roundOf n r i) ≡ false
+    → next ≡ inputAfter (wantsRead i (roundOf n r i)) (roundOf n r i .used) i → drop (roundOf n r i .used) (bodyOf i) ≡ bodyOf next
+    → AllPrinted (roundOf n r i .reader) (bodyOf next) (roundsText k n (roundOf n r i .reader) next)
+    → AllPrinted r (bodyOf i) (roundsText (suc k) n r i)
+unfolding roundsText
+one-of-many k n r i next s o q b a =
+    let run = roundOf n r i in
+    let text = runText (isShort (i .hand)) run in
+    record {
+      calls = length (run .seen) + a .calls;
+      same = λ j.
+          let e : length (run .seen) + a .calls + suc j ≡ length (run .seen) + suc (a .calls + j) = omega arith in
+          let f : suc (a .calls + j) ≡ a .calls + suc j = omega arith in
+          let g : replayFrom (suc (a .calls + j)) (run .reader) (drop (run .used) (bodyOf i)) ≡ roundsText k n (run .reader) next =
+          ap (λ (l : List ℕ). replayFrom (suc (a .calls + j)) (run .reader) l) b ∙ ap (λ (m : ℕ). replayFrom m (run .reader) (bodyOf next)) f ∙ a .same j in
+          ap (λ (m : ℕ). replayFrom m r (bodyOf i)) e ∙ by-end n (a .calls + j) r (i .hand) (i .ended) (i .pieces) s
+          ∙ rw o (ap (λ (l : List ℕ). text ++ l) (g ∙ ap (roundsText k n (run .reader)) q));
+    }
+
+all-printed : (k n : ℕ) (r : Reader) (i : Input) → Sound i → size r i < k → AllPrinted r (bodyOf i) (roundsText k n r i)
+all-printed zero n r i s h = absurd (omega arith)
+all-printed (suc k) n r i s h =
+    let run = roundOf n r i in
+    let w = wantsRead i run in
+    let next = inputAfter w (run .used) i in
+    by-bool (lastRound i run)
+    (λ o. last-of-all k n r i s o)
+    (λ o.
+    one-of-many k n r i next s o refl (rest-is n r i o ∙ body-after w (run .used) (i .hand) (i .ended) (i .pieces))
+    (all-printed k n (run .reader) next (sound-after w (run .used) (i .hand) (i .ended) (i .pieces) s)
+    (omega (arith, smaller w n r i o refl))))
+
+pub rounds-print-text : RoundsPrintText
+unfolding reads
+rounds-print-text v k n hand pieces h =
+    let i : Input = record { hand = hand; ended = false; pieces = pieces } in
+    let r = emptyReader v in
+    printed-text v (bodyOf i) (roundsText k n r i)
+    (all-printed k n r i (λ e. absurd (false≢true e)) (omega (arith, rank-le (r .scalars))))

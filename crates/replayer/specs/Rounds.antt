@@ -1,0 +1,57 @@
+-- What the program prints of an input that comes in pieces: its rounds, as a statement; proofs/Rounds.antt proves it. docs/FORMAT.md, "The
+-- replay program".
+use Prim.Native.Nat.{ℕ, zero, suc, _+_, _≤_}
+use mathlib.Core.Path.{_≡_}
+use mathlib.Core.Bool.{Bool, true, false, cond}
+use mathlib.Core.List.{List, [], _∷_, _++_}
+use lib.ListN.{length, drop}
+use Rattle.item.specs.declared.Version.{Version}
+use Rattle.state.specs.State.{emptyReader}
+use Rattle.state.specs.declared.Reader.{Reader}
+use Rattle.many.specs.Many.{Run}
+use Rattle.replayer.specs.Replay.{isShort, ends, wants, runText, turnRun, enough, replayText}
+
+-- the bytes at hand, whether the input has ended, and the pieces that the next reads give
+pub record Input : Type 0 where
+  pub hand : List ℕ
+  pub ended : Bool
+  pub pieces : List (List ℕ)
+
+-- a read gives the next piece, behind the bytes at hand; the end, where there is none
+abbrev pub readOn : List ℕ → List (List ℕ) → Input
+readOn hand [] = record { hand = hand; ended = true; pieces = [] }
+readOn hand (p ∷ ps) = record { hand = hand ++ p; ended = false; pieces = ps }
+
+-- after a turn that used so many bytes: a read, if the turn wants one
+abbrev pub inputAfter : Bool → ℕ → Input → Input
+inputAfter true used i = readOn (drop used (i .hand)) (i .pieces)
+inputAfter false used i = record { hand = drop used (i .hand); ended = i .ended; pieces = i .pieces }
+
+-- a turn on the bytes at hand, with room for one event and n more
+abbrev pub roundOf : ℕ → Reader → Input → Run
+roundOf n r i = turnRun (suc n) r (i .hand) (i .ended)
+
+abbrev pub lastRound : Input → Run → Bool
+lastRound i run = ends (isShort (i .hand)) (run .halt) (length (run .seen))
+
+abbrev pub wantsRead : Input → Run → Bool
+wantsRead i run = wants (isShort (i .hand)) (run .halt)
+
+-- so many rounds at most: a turn, its text, and a read if it wants one
+unfoldable pub roundsText : ℕ → ℕ → Reader → Input → List ℕ
+roundsText zero n r i = []
+roundsText (suc k) n r i =
+    let run = roundOf n r i in
+    runText (isShort (i .hand)) run
+    ++ cond (lastRound i run) [] (roundsText k n (run .reader) (inputAfter (wantsRead i run) (run .used) i))
+
+unfoldable pub joined : List (List ℕ) → List ℕ
+joined [] = []
+joined (p ∷ ps) = p ++ joined ps
+
+-- enough rounds print the text of the body, in whatever pieces it came
+abbrev pub RoundsPrintText : Type 0
+RoundsPrintText =
+    (v : Version) (k n : ℕ) (hand : List ℕ) (pieces : List (List ℕ)) → let body = hand ++ joined pieces in
+    enough body + length pieces + 1 ≤ k
+    → roundsText k n (emptyReader v) (record { hand = hand; ended = false; pieces = pieces }) ≡ replayText v body
