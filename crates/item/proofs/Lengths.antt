@@ -1,5 +1,4 @@
 -- How many values stand in a record: as many as its tag has fields there. Assumes nothing.
-use Prim.Native.Nat.{ℕ}
 use mathlib.Core.Path.{_≡_, refl}
 use lib.ListN.{length}
 use Rattle.item.specs.Extensions.{extensions, payloadAt}

@@ -1,5 +1,5 @@
 -- The record call refuses 3 to 7 only, each for its cause. Assumes nothing.
-use Prim.Native.Nat.{ℕ, zero, suc, _+_, _-_, _≤_}
+use Prim.Native.Nat.{ℕ, zero, suc, _+_, _-_, _≤_, _<_}
 use mathlib.Core.Path.{_≡_, refl, sym, _∙_, ap}
 use mathlib.Core.Bool.{Bool, true, false}
 use mathlib.Core.List.{List, [], _∷_, _++_}
@@ -83,9 +83,10 @@ kind-refused v s (negsuc (suc (suc (suc (suc (suc (suc (suc (suc (suc (suc (suc 
 
 -- ---- arguments
 
--- of strings that were had, 16 and one more
-record TooMany (s : List ℕ) (had : List Part) (at : ℕ) (r : Refusal) : Type 0 where
+-- of strings that were had and so many that are to come, 16 and one more
+record TooMany (k : ℕ) (s : List ℕ) (had : List Part) (at : ℕ) (r : Refusal) : Type 0 where
   why : r ≡ NumArgsTooLarge
+  above : 16 < length had + k
   sixteen : List Part
   place : ℕ
   last : Part
@@ -94,9 +95,9 @@ record TooMany (s : List ℕ) (had : List Part) (at : ℕ) (r : Refusal) : Type 
   one-more : readString s place ≡ parts.Got last next
 
 module _ (n : ℕ) (s : List ℕ) (had : List Part) (at : ℕ) (few : length had ≤ 16) (r : Refusal)
-    (again : (p : Part) (m : ℕ) → length (had ++ p ∷ []) ≤ 16 → argsFrom n s (had ++ p ∷ []) m ≡ refused r → TooMany s (had ++ p ∷ []) m r) where
+    (again : (p : Part) (m : ℕ) → length (had ++ p ∷ []) ≤ 16 → argsFrom n s (had ++ p ∷ []) m ≡ refused r → TooMany n s (had ++ p ∷ []) m r) where
   one-more-fits : (p : Part) (m : ℕ) → readString s at ≡ parts.Got p m → ltb (length had) 16 ≡ true
-      → argsFrom n s (had ++ p ∷ []) m ≡ refused r → TooMany s had at r
+      → argsFrom n s (had ++ p ∷ []) m ≡ refused r → TooMany (suc n) s had at r
   unfolding argsFrom
   one-more-fits p m x t e =
       let l : length (had ++ p ∷ []) ≡ length had + 1 = length-append had (p ∷ []) in
@@ -105,6 +106,7 @@ module _ (n : ℕ) (s : List ℕ) (had : List Part) (at : ℕ) (few : length had
       let c : 16 - length had ≡ suc (16 - length (had ++ p ∷ [])) = omega (arith, l, h) in
       record {
         why = i .why;
+        above = omega (arith, l, i .above);
         sixteen = i .sixteen;
         place = i .place;
         last = i .last;
@@ -113,18 +115,19 @@ module _ (n : ℕ) (s : List ℕ) (had : List Part) (at : ℕ) (few : length had
         one-more = i .one-more;
       }
 
-  none-fits : (p : Part) (m : ℕ) → readString s at ≡ parts.Got p m → ltb (length had) 16 ≡ false → _≡_ {A = Reading (List Part)} (refused NumArgsTooLarge) (refused r) → TooMany s had at r
+  none-fits : (p : Part) (m : ℕ) → readString s at ≡ parts.Got p m → ltb (length had) 16 ≡ false → _≡_ {A = Reading (List Part)} (refused NumArgsTooLarge) (refused r) → TooMany (suc n) s had at r
   unfolding argsFrom
   none-fits p m x t e =
-      let c : 16 - length had ≡ 0 = omega (arith, ltb-false (length had) 16 t) in
-      record { why = cc; sixteen = had; place = at; last = p; next = m; before = rw c; one-more = x }
+      let h = ltb-false (length had) 16 t in
+      let c : 16 - length had ≡ 0 = omega (arith, h) in
+      record { why = cc; above = omega (arith, h); sixteen = had; place = at; last = p; next = m; before = rw c; one-more = x }
 
-  one-refused : (x : PartRead) → readString s at ≡ x → oneArg x had (argsFrom n s) ≡ refused r → TooMany s had at r
+  one-refused : (x : PartRead) → readString s at ≡ x → oneArg x had (argsFrom n s) ≡ refused r → TooMany (suc n) s had at r
   one-refused (parts.Got p m) x e =
       by-bool (ltb (length had) 16) (λ t. one-more-fits p m x t (rw t at e)) (λ t. none-fits p m x t (rw t at e))
   one-refused parts.RunsOut x e = out-refused e
 
-too-many : (n : ℕ) (s : List ℕ) (had : List Part) (at : ℕ) → length had ≤ 16 → (r : Refusal) → argsFrom n s had at ≡ refused r → TooMany s had at r
+too-many : (n : ℕ) (s : List ℕ) (had : List Part) (at : ℕ) → length had ≤ 16 → (r : Refusal) → argsFrom n s had at ≡ refused r → TooMany n s had at r
 unfolding argsFrom
 too-many zero s had at few r e = not-refused (sym e)
 too-many (suc n) s had at few r e =
@@ -166,7 +169,7 @@ module _ (v : Version) (s : List ℕ) (last : Bool) (n : ℕ) (vs : List ℤ) (r
   counted : (at : ℕ) → Command v s at → (x : IntRead) → readInt s at ≡ x → argsField s x ≡ refused r → Caused
   counted at k (ints.Got (pos c) next m) x e =
       let t = too-many c s [] next (omega arith) r (strings-refused (argsFrom c s [] next) r e) in
-      num-args-too-large at c next m (number ∙ ap numberOf (t .why)) (values ∙ ap valuesOf (t .why)) k x
+      num-args-too-large at c next m (number ∙ ap numberOf (t .why)) (values ∙ ap valuesOf (t .why)) k x (omega (arith, t .above))
       (record { sixteen = t .sixteen; place = t .place; last = t .last; next = t .next; before = t .before; one-more = t .one-more })
   counted at k (ints.Got (negsuc c) next m) x e =
       negative-num-args at c next m (is NegativeNumArgs e .0) (is NegativeNumArgs e .1) k x

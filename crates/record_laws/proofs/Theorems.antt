@@ -38,7 +38,7 @@ among v s last n vs (unexpected-end e a b c) = (omega (arith, e), omega (arith, 
 among v s last n vs (unknown-type z next remark e a b c) = (omega (arith, e), omega (arith, e))
 among v s last n vs (negative-dt at d next remark e a b c) = (omega (arith, e), omega (arith, e))
 among v s last n vs (negative-num-args at m next remark e a b c) = (omega (arith, e), omega (arith, e))
-among v s last n vs (num-args-too-large at count next remark e a b c d) = (omega (arith, e), omega (arith, e))
+among v s last n vs (num-args-too-large at count next remark e a b c more d) = (omega (arith, e), omega (arith, e))
 
 pub three-to-seven : laws.ThreeToSeven
 three-to-seven v s last n vs e = among v s last n vs (record-refuses v s last n vs e)

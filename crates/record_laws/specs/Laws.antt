@@ -1,6 +1,6 @@
 -- What holds of the record call and of the writer's call, as statements; proofs/Theorems.antt proves each. docs/FORMAT.md, "What a call
 -- may say", "Records" and "The writer".
-use Prim.Native.Nat.{ℕ, _+_, _-_, _≤_}
+use Prim.Native.Nat.{ℕ, _+_, _-_, _≤_, _<_}
 use mathlib.Core.Path.{_≡_}
 use mathlib.Core.Bool.{Bool, true}
 use mathlib.Core.List.{List, [], _∷_, _++_}
@@ -99,7 +99,8 @@ pub data Cause (v : Version) (s : List ℕ) (last : Bool) (n : ℕ) (vs : List �
   negative-num-args :
       (at m next : ℕ) (remark : Remark) → n ≡ 6 → vs ≡ [] → Command v s at → Reads s at (negsuc m) next remark → Cause v s last n vs
   num-args-too-large :
-      (at count next : ℕ) (remark : Remark) → n ≡ 7 → vs ≡ [] → Command v s at → Reads s at (pos count) next remark → Seventeenth s next
+      (at count next : ℕ) (remark : Remark) → n ≡ 7 → vs ≡ [] → Command v s at → Reads s at (pos count) next remark → 16 < count
+      → Seventeenth s next
       → Cause v s last n vs
 
 abbrev pub RecordRefuses : Type 0
