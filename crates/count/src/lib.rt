@@ -3,7 +3,7 @@
 ghost use Prim.Native.Nat.{_+_, min};
 ghost use mathlib.Core.Path.{_≡_};
 ghost use Rattle.count.specs.Count.{versionIf};
-use item::Version;
+use kinds::Version;
 
 pub fn version_if(second: bool) -> Version
     ensures { λ r. ⌜ r ≡ versionIf second ⌝ }

@@ -4,7 +4,7 @@ use mathlib.Core.Path.{_≡_, sym, ap, subst, _∙_}
 use mathlib.Core.Bool.{true}
 use mathlib.Core.List.{List}
 use Rattle.item.specs.Said.{Said, gives, more, finish, refuses}
-use Rattle.item.specs.declared.Version.{Version}
+use Rattle.kinds.specs.declared.Version.{Version}
 use Rattle.state.specs.State.{Memory, readerWith}
 use Rattle.state.specs.Reading.{Event, Step, callOn, readCall, readerAfter}
 use Rattle.state.specs.Views.{eventIs, saidIs, done, slimSaid, slimStep}

@@ -7,7 +7,7 @@ use mathlib.Core.List.{List}
 use lib.ListN.{length, take, drop, length-drop}
 use lib.IntN.{ℤ}
 use lib.Seq.{drop-drop, take-all}
-use Rattle.item.specs.declared.Version.{Version}
+use Rattle.kinds.specs.declared.Version.{Version}
 use Rattle.state.specs.State.{emptyReader}
 use Rattle.state.specs.declared.Reader.{Reader}
 use Rattle.many.specs.Many.{Halt, isFull, wantsMore, finishes, isRefused, Run, calls, manyCalls, room, haltOf, Tells}

@@ -1,10 +1,10 @@
 // Bodies that arrive byte by byte. Each is read with windows that grow by one byte, the flag off until no byte is left: the lines of its
 // events as they can be read, and `more`, with the reader's place and the bytes at hand, wherever these run out. Such a call is to change
 // nothing. Standard input is as that of reader_vectors.
-use item::Cid;
-use item::Kind;
-use item::Version;
-use item::VersionOf;
+use kinds::Cid;
+use kinds::Kind;
+use kinds::Version;
+use kinds::VersionOf;
 use libc::STDOUT_FILENO;
 use lines::Ending;
 use packer::PartRead;
@@ -200,7 +200,7 @@ fn run_case(input: &[u8]) {
     if input.len() == 0 {
         return;
     }
-    let VersionOf::Is(version) = item::version_of(signed(input[0])) else {
+    let VersionOf::Is(version) = kinds::version_of(signed(input[0])) else {
         return;
     };
     read_body(version, &input[1..]);

@@ -15,11 +15,11 @@ use Rattle.varint.proofs.Prefix.{int-fits}
 use Rattle.packer.specs.declared.Part.{Part}
 use Rattle.fields.specs.Fields.{int, Value, num, Reading, got, runsOut, refused, intField, push, andThen, readFields}
 use Rattle.fields.specs.Views.{numbers}
-use Rattle.item.specs.Kinds.{withClient, extension, kindOf, afterNumber, readKind}
-use Rattle.item.specs.declared.Version.{Version}
-use Rattle.item.specs.declared.Version.the-variants.{V1, V2}
-use Rattle.item.specs.declared.Kind.{Kind}
-use Rattle.item.specs.declared.Kind.the-variants.{PlayerNew, PlayerOld}
+use Rattle.kinds.specs.Kinds.{withClient, extension, kindOf, afterNumber, readKind}
+use Rattle.kinds.specs.declared.Version.{Version}
+use Rattle.kinds.specs.declared.Version.the-variants.{V1, V2}
+use Rattle.kinds.specs.declared.Kind.{Kind}
+use Rattle.kinds.specs.declared.Kind.the-variants.{PlayerNew, PlayerOld}
 use Rattle.state.specs.Reading.{nextKind}
 use Rattle.state.specs.declared.Pending.{Pending}
 use Rattle.state.specs.declared.Pending.the-variants.{Is, NoKind}

@@ -6,7 +6,7 @@ use mathlib.Core.List.{List, [], _∷_, _++_, append-assoc, append-nil}
 use lib.ListN.{getD, replicate, length-replicate}
 use lib.Dec.{ltb}
 use lib.IntN.{ℤ, pos, negsuc}
-use Rattle.item.specs.declared.Version.{Version}
+use Rattle.kinds.specs.declared.Version.{Version}
 use Rattle.state.specs.State.{noEntries, emptyReader}
 use Rattle.state.specs.declared.Reader.{Reader}
 use Rattle.back.specs.Board.{boardOf}

@@ -11,7 +11,7 @@ use Rattle.varint.specs.Integers.{readInt}
 use Rattle.varint.specs.declared.IntRead.{IntRead}
 use Rattle.varint.specs.declared.IntRead.the-variants.{Got, RunsOut}
 use Rattle.item.specs.Said.{Said, gives, more, finish, refuses}
-use Rattle.item.specs.declared.Version.{Version}
+use Rattle.kinds.specs.declared.Version.{Version}
 use Rattle.state.specs.State.{same, present, xOf, yOf, emptyReader}
 use Rattle.state.specs.Reading.{
   Event,

@@ -22,8 +22,8 @@ ghost use Rattle.state.specs.State.{
   goodReader,
 };
 ghost use Rattle.good.specs.Blocks.{from, noMark};
-use item::Kind;
-use item::Version;
+use kinds::Kind;
+use kinds::Version;
 use state::Entries;
 use state::Pending;
 use state::Scalars;

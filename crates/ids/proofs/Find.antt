@@ -1,38 +1,39 @@
--- Finding an identifier among the extensions: one step by the table's row, and what is found. Assumes nothing.
-use Prim.Native.Nat.{ℕ, zero, suc, _+_, _-_, _≤_, _<_}
+-- Finding an identifier among the extensions: one step, and what is found. Assumes nothing.
+use Prim.Native.Nat.{ℕ, _+_, _<_}
 use mathlib.Core.Path.{_≡_, sym, _∙_, ap}
 use mathlib.Core.Bool.{Bool, cond}
-use mathlib.Core.List.{List}
+use mathlib.Core.List.{List, [], _∷_}
 use native.Mathlib.Omega.{arith}
+use native.Mathlib.Numerals.{add-one}
+use lib.ListN.{drop, getD}
+use lib.Seq.{drop-cons}
 use Rattle.num.proofs.Cases.{by-bool}
-use Rattle.item.specs.Extensions.{count, idAt, same, findFrom, find}
-use Rattle.ids.specs.Table.{rowAt}
+use Rattle.kinds.specs.Magic.{same}
+use Rattle.extensions.specs.Extensions.{idAt, all, findIn, find}
+use Rattle.extensions.specs.declared.Extension.{Extension}
+use Rattle.extensions.specs.declared.Extension.the-variants.{TeamSaveSuccess}
+use Rattle.extensions.specs.declared.Found.{Found}
+use Rattle.extensions.specs.declared.Found.the-variants.{Known}
+use Rattle.extensions.proofs.Each.{length-all}
 use Rattle.ids.proofs.Same.{same-true}
-use Rattle.ids.proofs.Table.{row-id}
 
-pub find-step : (id : List ℕ) (k : ℕ) → k < count → (t : Bool) → same id (rowAt k) ≡ t
-    → findFrom (20 - k) k id ≡ cond t k (findFrom (20 - (k + 1)) (k + 1) id)
-unfolding findFrom
-find-step id k h t e = let n : 20 - k ≡ suc (20 - (k + 1)) = omega arith in rw (n, ap (same id) (sym (row-id k h)) ∙ e)
+pub find-step : (id : List ℕ) (k : ℕ) → k < 20 → (e : Extension) → e ≡ getD all k TeamSaveSuccess → (t : Bool) → same id (idAt e) ≡ t
+    → findIn (drop k all) id ≡ cond t (Known e) (findIn (drop (k + 1) all) id)
+unfolding findIn
+find-step id k h e p t q = rw (drop-cons all k TeamSaveSuccess (omega (arith, length-all)), add-one, ← p, q)
 
-found-from : (n k : ℕ) (id : List ℕ) → findFrom n k id < k + n → idAt (findFrom n k id) ≡ id
-unfolding findFrom
-found-from zero k id h = absurd (omega arith)
-found-from (suc n) k id h =
-    by-bool (same id (idAt k))
-    (λ t. rw t (sym (same-true id (idAt k) t)))
-    (λ t. rw t (found-from n (k + 1) id (omega (arith, rw t at h))))
+known-is : (x e : Extension) → Known x ≡ Known e → x ≡ e
+known-is x e h = cc
 
-from-le : (n k : ℕ) (id : List ℕ) → findFrom n k id ≤ k + n
-unfolding findFrom
-from-le zero k id = omega arith
-from-le (suc n) k id = by-bool (same id (idAt k)) (λ t. rw t (omega arith)) (λ t. rw t (omega (arith, from-le n (k + 1) id)))
+found-in : (es : List Extension) (id : List ℕ) (e : Extension) → findIn es id ≡ Known e → idAt e ≡ id
+unfolding findIn
+found-in [] id e h = let q : _≡_ {A = ℕ} 0 1 = cc in absurd (omega arith)
+found-in (x ∷ es) id e h =
+    by-bool (same id (idAt x))
+    (λ t. let q : x ≡ e = known-is x e (rw t at h) in rw (← q) (sym (same-true id (idAt x) t)))
+    (λ t. found-in es id e (rw t at h))
 
 -- the identifier that is found is the one that was looked for
-pub found-is : (id : List ℕ) → find id < count → idAt (find id) ≡ id
+pub found-is : (id : List ℕ) (e : Extension) → find id ≡ Known e → idAt e ≡ id
 unfolding find
-found-is id h = found-from count 0 id h
-
-pub found-le : (id : List ℕ) → find id ≤ count
-unfolding find
-found-le id = from-le count 0 id
+found-is id e h = found-in all id e h

@@ -1,5 +1,6 @@
 pub mod Keys
-pub mod Find
+pub mod Below
 pub mod Same
+pub mod ByHalves
 pub mod Table
-pub mod Halves
+pub mod Find

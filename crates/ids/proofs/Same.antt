@@ -8,7 +8,7 @@ use lib.ListN.{length, take, drop, getD}
 use lib.Seq.{drop-cons}
 use lib.Dec.{eqb}
 use borrow.Author.Tests.{eq-eqb, eqb-true}
-use Rattle.item.specs.Extensions.{same}
+use Rattle.kinds.specs.Magic.{same}
 
 -- the first of the bytes from a place on
 pub front : (s : List ℕ) (a n : ℕ) → a < length s → take (suc n) (drop a s) ≡ getD s a 0 ∷ take n (drop (a + 1) s)

@@ -1,25 +1,31 @@
--- The table of this crate: the identifiers of the 20 extensions, one behind the other, then the magic.
-use Prim.Native.Nat.{ℕ, _+_, _*_}
-use mathlib.Core.List.{List, [], _∷_, _++_, map}
-use lib.ListN.{getD}
-use Rattle.item.specs.Extensions.{Extension, extensions}
-use Rattle.item.specs.Magic.{magic}
-
-unfoldable pub rows : List (List ℕ)
-rows = map (λ (e : Extension). e .id) extensions ++ magic ∷ []
-
-abbrev pub joined : List (List ℕ) → List ℕ
-joined [] = []
-joined (r ∷ rs) = r ++ joined rs
-
-unfoldable pub table : List ℕ
-table = joined rows
-
--- row k: the identifier of extension k, and at 20 the magic
-unfoldable pub rowAt : ℕ → List ℕ
-rowAt k = getD rows k []
+-- Inner: 16 bytes as the numbers of their halves, and comparing by them.
+use Prim.Native.Nat.{ℕ, _+_, _*_, _<_}
+use mathlib.Core.Path.{_≡_}
+use mathlib.Core.Bool.{Bool}
+use mathlib.Core.List.{List, [], _∷_}
+use lib.ListN.{length, take, drop}
+use Rattle.kinds.specs.Magic.{same}
+use Rattle.ids.specs.declared.Halves.{Halves}
 
 -- the number of some bytes behind others, whose number is n: each is worth 256 of the next
 abbrev pub number : ℕ → List ℕ → ℕ
 number n [] = n
 number n (b ∷ bs) = number (n * 256 + b) bs
+
+abbrev pub halvesWith : ℕ → ℕ → Halves
+halvesWith a b = record { first = a; second = b }
+
+abbrev pub halves : List ℕ → Halves
+halves xs = halvesWith (number 0 (take 8 xs)) (number 0 (drop 8 xs))
+
+abbrev pub AllBytes : List ℕ → Type 0
+AllBytes [] = Unit
+AllBytes (b ∷ bs) = (b < 256) × AllBytes bs
+
+pub record Sixteen (xs : List ℕ) : Type 0 where
+  pub bytes : AllBytes xs
+  pub size : length xs ≡ 16
+
+-- it is answered whether the window's bytes are those of the halves
+abbrev pub TellsSame : List ℕ → Halves → Bool → Type 0
+TellsSame w h r = (xs : List ℕ) → Sixteen xs → h ≡ halves xs → r ≡ same w xs

@@ -4,72 +4,60 @@ ghost use Prim.Native.Nat.{_+_, _-_, _/_, _%_, _^_, _≤_, _<_};
 ghost use lib.ListN.{length, take, drop, getD};
 ghost use Rattle.packer.specs.Parts.{shown};
 ghost use Rattle.shapes.specs.Shapes.{idPart};
-ghost use Rattle.item.specs.Extensions.{same, find};
-ghost use Rattle.item.specs.Magic.{readMagic};
-ghost use Rattle.item.specs.Views.{magicIs};
-ghost use Rattle.ids.specs.Table.{table, rowAt, number};
-use item::MagicRead;
+ghost use Rattle.kinds.specs.Magic.{magic, readMagic};
+ghost use Rattle.kinds.specs.Views.{magicIs};
+ghost use Rattle.extensions.specs.Extensions.{idAt, find};
+ghost use Rattle.ids.specs.Table.{number, halvesWith, halves, TellsSame};
+use extensions::Extension;
+use extensions::Found;
+use kinds::MagicRead;
 use refusal::Refusal;
 
-// The table: the constants of item.rs in the order of docs/FORMAT.md, then the magic of mod.rs, 16 bytes each. The first eight bytes of
-// row k as a number, which is compared at once; an array would be copied wherever it is used.
-fn first_half(k: usize) -> u64
-    ensures { λ r. ⌜ r ≡ number 0 (take 8 (rowAt k)) ⌝ }
+// 16 bytes as two numbers, which are compared at once; an array would be copied wherever it is used.
+pub struct Halves {
+    first: u64,
+    second: u64,
+}
+
+fn halves_with(first: u64, second: u64) -> Halves
+    ensures { λ r. ⌜ r ≡ halvesWith first second ⌝ }
 {
-    match k {
-        0 => 0x866bfdacfb493c0b, // Antibot
-        1 => 0x60daba5c52c43aeb, // AuthInit
-        2 => 0x37ecd3b892183bb9, // AuthLogin
-        3 => 0xd4f5abe8edd23fb9, // AuthLogout
-        4 => 0x1397b63eee4e3919, // Ddnetver
-        5 => 0x41b49541f26f325d, // DdnetverOld
-        6 => 0x1899a38271e336da, // Joinver6
-        7 => 0x59239b050540318d, // Joinver7
-        8 => 0x68943c0123483e01, // PlayerFinish
-        9 => 0xd016f9b941513b87, // PlayerName
-        10 => 0x638587c93f753887, // PlayerReady
-        11 => 0xc1e921d596f537bb, // PlayerRejoin
-        12 => 0x5de9b63349cf3e99, // PlayerSwap
-        13 => 0xa111c04e1ea838e0, // PlayerTeam
-        14 => 0x9588b9af3fdc3760, // TeamFinish
-        15 => 0xef8905a2c6953591, // TeamLoadFailure
-        16 => 0xe05408d3a31333df, // TeamLoadSuccess
-        17 => 0x5792834e81d134c9, // TeamPractice
-        18 => 0xb29901d512443bd0, // TeamSaveFailure
-        19 => 0x4560c756da293036, // TeamSaveSuccess
-        20 => 0x699db17b8efb34ff, // the magic
-        _ => 0,
+    Halves { first, second }
+}
+
+// The identifiers: the constants of item.rs.
+fn id_halves(which: Extension) -> Halves
+    ensures { λ r. ⌜ r ≡ halves (idAt which) ⌝ }
+{
+    match which {
+        Extension::Antibot => halves_with(0x866bfdacfb493c0b, 0xa8875fe1f3ea00b8),
+        Extension::AuthInit => halves_with(0x60daba5c52c43aeb, 0xb8bab2953fb55a17),
+        Extension::AuthLogin => halves_with(0x37ecd3b892183bb9, 0xa71ba935b86f6a81),
+        Extension::AuthLogout => halves_with(0xd4f5abe8edd23fb9, 0xabd81c8bb84f4a63),
+        Extension::Ddnetver => halves_with(0x1397b63eee4e3919, 0xb86ab058887fcaf5),
+        Extension::DdnetverOld => halves_with(0x41b49541f26f325d, 0x87159baf4b544ef9),
+        Extension::Joinver6 => halves_with(0x1899a38271e336da, 0x937dc9de6bb95b1d),
+        Extension::Joinver7 => halves_with(0x59239b050540318d, 0xbea49aa1e80e7d2b),
+        Extension::PlayerFinish => halves_with(0x68943c0123483e01, 0x94903f27f8269d94),
+        Extension::PlayerName => halves_with(0xd016f9b941513b87, 0x87e53a6087eb5f26),
+        Extension::PlayerReady => halves_with(0x638587c93f753887, 0x918ea3c2614ffaa0),
+        Extension::PlayerRejoin => halves_with(0xc1e921d596f537bb, 0x8a457a06f163d27e),
+        Extension::PlayerSwap => halves_with(0x5de9b63349cf3e99, 0x9a25d4a78e9717d7),
+        Extension::PlayerTeam => halves_with(0xa111c04e1ea838e0, 0x90b1d7f993ca0da9),
+        Extension::TeamFinish => halves_with(0x9588b9af3fdc3760, 0x804382deeee317a5),
+        Extension::TeamLoadFailure => halves_with(0xef8905a2c6953591, 0xa1cd53d2015992dd),
+        Extension::TeamLoadSuccess => halves_with(0xe05408d3a31333df, 0x9eb3ddb990ab954a),
+        Extension::TeamPractice => halves_with(0x5792834e81d134c9, 0xa29bb5ff25dac3bc),
+        Extension::TeamSaveFailure => halves_with(0xb29901d512443bd0, 0xbbde23d04b1f7ba9),
+        Extension::TeamSaveSuccess => halves_with(0x4560c756da293036, 0x81d490a50f0182cd),
     }
 }
 
-// The last eight bytes of row k.
-fn second_half(k: usize) -> u64
-    ensures { λ r. ⌜ r ≡ number 0 (drop 8 (rowAt k)) ⌝ }
+// The magic of mod.rs.
+fn magic_halves() -> Halves
+    ensures { λ r. ⌜ r ≡ halves magic ⌝ }
 {
-    match k {
-        0 => 0xa8875fe1f3ea00b8,
-        1 => 0xb8bab2953fb55a17,
-        2 => 0xa71ba935b86f6a81,
-        3 => 0xabd81c8bb84f4a63,
-        4 => 0xb86ab058887fcaf5,
-        5 => 0x87159baf4b544ef9,
-        6 => 0x937dc9de6bb95b1d,
-        7 => 0xbea49aa1e80e7d2b,
-        8 => 0x94903f27f8269d94,
-        9 => 0x87e53a6087eb5f26,
-        10 => 0x918ea3c2614ffaa0,
-        11 => 0x8a457a06f163d27e,
-        12 => 0x9a25d4a78e9717d7,
-        13 => 0x90b1d7f993ca0da9,
-        14 => 0x804382deeee317a5,
-        15 => 0xa1cd53d2015992dd,
-        16 => 0x9eb3ddb990ab954a,
-        17 => 0xa29bb5ff25dac3bc,
-        18 => 0xbbde23d04b1f7ba9,
-        19 => 0x81d490a50f0182cd,
-        20 => 0xb1d8da6f60c15dd1,
-        _ => 0,
-    }
+    halves_with(0x699db17b8efb34ff, 0xb1d8da6f60c15dd1)
 }
 
 // Byte j of the eight.
@@ -89,19 +77,18 @@ fn byte_of(half: u64, j: usize) -> u8
     }
 }
 
-// A byte of the table: byte i % 16 of row i / 16; 0 past its end.
-pub fn table_byte(i: usize) -> u8
-    ensures { λ r. ⌜ r ≡ getD table i 0 ⌝ }
+// A byte of an extension's identifier; 0 past its end.
+pub fn id_byte(which: Extension, i: usize) -> u8
+    ensures { λ r. ⌜ r ≡ getD (idAt which) i 0 ⌝ }
 {
-    if 336 <= i {
+    if 16 <= i {
         return 0;
     }
-    let k = i / 16;
-    let j = i % 16;
-    if j < 8 {
-        return byte_of(first_half(k), j);
+    let id = id_halves(which);
+    if i < 8 {
+        return byte_of(id.first, i);
     }
-    byte_of(second_half(k), j - 8)
+    byte_of(id.second, i - 8)
 }
 
 fn wide(b: u8) -> u64
@@ -126,35 +113,36 @@ fn word(s: &[u8], at: usize) -> u64
     quad(s, at) * 4294967296 + quad(s, at + 4)
 }
 
-// Whether the 16 bytes at a place are row k.
-fn same_row(s: &[u8], at: usize, k: usize) -> bool
-    requires { ⌜ (at + 16 ≤ length (now s)) × (k < 21) ⌝ }
-    ensures { λ r. ⌜ r ≡ same (take 16 (drop at (now (s .entry)))) (rowAt k) ⌝ }
+// Whether the 16 bytes at a place are those of the halves.
+fn same_bytes(s: &[u8], at: usize, id: Halves) -> bool
+    requires { ⌜ at + 16 ≤ length (now s) ⌝ }
+    ensures { λ r. ⌜ TellsSame (take 16 (drop at (now (s .entry)))) id r ⌝ }
 {
-    if word(s, at) != first_half(k) {
+    if word(s, at) != id.first {
         return false;
     }
-    word(s, at + 8) == second_half(k)
+    word(s, at + 8) == id.second
 }
 
-// Which of the 20 extensions the 16 bytes at a place name; 20 if none, or if they reach outside the window.
-pub fn find_id(s: &[u8], at: usize) -> usize
+// Which of the 20 extensions the 16 bytes at a place name; none if they reach outside the window.
+pub fn find_id(s: &[u8], at: usize) -> Found
     ensures { λ r. ⌜ r ≡ find (shown (now (s .entry)) (idPart at)) ⌝ }
 {
     if s.len() < at {
-        return 20;
+        return Found::Unknown;
     }
     if s.len() - at < 16 {
-        return 20;
+        return Found::Unknown;
     }
     let mut k = 0;
     while k < 20 {
-        if same_row(s, at, k) {
-            return k;
+        let which = extensions::extension_at(k);
+        if same_bytes(s, at, id_halves(which)) {
+            return Found::Known(which);
         }
         k += 1;
     }
-    k
+    Found::Unknown
 }
 
 // The magic call: 16 bytes used, or a refusal.
@@ -164,7 +152,7 @@ pub fn read_magic(s: &[u8]) -> MagicRead
     if s.len() < 16 {
         return MagicRead::Refused(Refusal::UnexpectedEnd);
     }
-    if same_row(s, 0, 20) {
+    if same_bytes(s, 0, magic_halves()) {
         return MagicRead::Used(16);
     }
     MagicRead::Refused(Refusal::WrongMagic)

@@ -12,14 +12,17 @@ use Rattle.fields.specs.Views.{noPart}
 use Rattle.shapes.specs.Shapes.{valuesIn}
 use Rattle.shapes.specs.declared.Fields.{Fields}
 use Rattle.item.specs.Records.{Content, content}
-use Rattle.item.specs.Contents.{itemOf, firstNumber, tagCid, cidOf, tagNumber, ownFields, takenOf, TakenApart}
-use Rattle.item.specs.declared.Kind.the-variants as kinds
+use Rattle.item.specs.Contents.{itemOf, firstNumber, tagCid, cidOf, tagNumber, ownFields}
+use Rattle.item.specs.Taken.{takenOf, TakenApart}
+use Rattle.kinds.specs.declared.Kind.the-variants as kinds
 use Rattle.item.specs.declared.Tag.{Tag}
 use Rattle.item.specs.declared.Tag.the-variants.{Plain, Named, Other}
 use Rattle.item.specs.declared.Item.{Item}
 use Rattle.item.specs.declared.Item.the-variants as items
 use Rattle.item.specs.declared.Taken.{Taken}
-use Rattle.item.proofs.Clients.{right}
+use Rattle.extensions.specs.Extensions.{extensionRow, payloadAt, hasClient, all}
+use Rattle.extensions.specs.declared.Extension.{Extension}
+use Rattle.extensions.proofs.Each.{each}
 
 -- ---- unsigned numbers in signed fields
 
@@ -40,6 +43,12 @@ command-apart cid n p z b =
 -- ---- the client, and the kind's number
 
 -- a record that has a client has it in the kind or in the first field
+in-named : (f : Fields) (e : Extension) → tagCid (Named e) (firstNumber (valuesIn (ownFields (Named e)) f)) ≡ tagCid (Named e) (f .first)
+unfolding payloadAt hasClient extensionRow all
+in-named f =
+    each (λ e. tagCid (Named e) (firstNumber (valuesIn (ownFields (Named e)) f)) ≡ tagCid (Named e) (f .first))
+    (refl, (refl, (refl, (refl, (refl, (refl, (refl, (refl, (refl, (refl, (refl, (refl, (refl, (refl, (refl, (refl, (refl, (refl, (refl, (refl, tt))))))))))))))))))))
+
 in-first : (t : Tag) (f : Fields) → tagCid t (firstNumber (valuesIn (ownFields t) f)) ≡ tagCid t (f .first)
 in-first (Plain (kinds.PlayerDiff c)) f = refl
 in-first (Plain kinds.Finish) f = refl
@@ -53,7 +62,7 @@ in-first (Plain kinds.Join) f = refl
 in-first (Plain kinds.Drop) f = refl
 in-first (Plain kinds.ConsoleCommand) f = refl
 in-first (Plain kinds.Ex) f = refl
-in-first (Named k) f = right f k .1
+in-first (Named e) f = in-named f e
 in-first Other f = refl
 
 pub cid-told : (i : Item) (t : Taken) (g : Tag) → TakenApart i t → t .tag ≡ g → tagCid g (t .fields .first) ≡ cidOf (itemOf i)

@@ -1,13 +1,13 @@
 -- How many values stand in a record: as many as its tag has fields there. Assumes nothing.
 use mathlib.Core.Path.{_≡_, refl}
 use lib.ListN.{length}
-use Rattle.item.specs.Extensions.{extensions, payloadAt}
+use Rattle.extensions.specs.Extensions.{extensionRow, payloadAt}
 use Rattle.item.specs.Contents.{itemOf, ownFields}
 use Rattle.item.specs.declared.Item.{Item}
 use Rattle.item.specs.declared.Item.the-variants as records
 
 pub lengths : (i : Item) → length (itemOf i .values) ≡ length (ownFields (itemOf i .tag))
-unfolding extensions payloadAt
+unfolding extensionRow payloadAt
 lengths (records.PlayerDiff cid dx dy) = refl
 lengths records.Finish = refl
 lengths (records.TickSkip ticks) = refl

@@ -1,4 +1,2 @@
-pub mod Arms
-pub mod Clients
 pub mod Apart
 pub mod Lengths

@@ -1,29 +1,26 @@
 -- The records that the code hands out: for each, which it is and the values that stand in it. docs/FORMAT.md, "Records" and rule 5.
-use Prim.Native.Nat.{ℕ}
-use mathlib.Core.Path.{_≡_}
 use mathlib.Core.Bool.{cond}
 use mathlib.Core.List.{List, [], _∷_, _++_, map}
-use lib.ListN.{take, replicate}
+use lib.ListN.{length, take}
 use lib.IntN.{ℤ, pos, negsuc}
 use Rattle.packer.specs.declared.Part.{Part}
 use Rattle.fields.specs.Fields.{Field, uuid, blob, Value, num, bytes, strings}
 use Rattle.fields.specs.Views.{zeros, argsWith}
 use Rattle.fields.specs.declared.Args.{Args}
-use Rattle.shapes.specs.Shapes.{idPart, fieldsWith, valuesIn, tidyFields}
-use Rattle.shapes.specs.declared.Fields.{Fields}
-use Rattle.item.specs.Kinds.{kindNumber}
-use Rattle.item.specs.Extensions.{Payload, shaped, whole, unknown, payloadAt, hasClient}
+use Rattle.shapes.specs.Shapes.{idPart}
+use Rattle.kinds.specs.Kinds.{Beside, nothing, ten, arguments, ofExtension, kindRow, kindNumber, kindCid}
+use Rattle.extensions.specs.Extensions.{Payload, shaped, whole, payloadAt, hasClient}
+use Rattle.extensions.specs.declared.Extension.the-variants as extensions
 use Rattle.item.specs.Records.{Content, content, Rest, fields, extension, restOf}
-use Rattle.item.specs.declared.Kind.{Kind}
-use Rattle.item.specs.declared.Kind.the-variants as kinds
+use Rattle.kinds.specs.declared.Kind.{Kind}
+use Rattle.kinds.specs.declared.Kind.the-variants as kinds
 use Rattle.item.specs.declared.Tag.{Tag}
 use Rattle.item.specs.declared.Tag.the-variants.{Plain, Named, Other}
-use Rattle.item.specs.declared.Cid.{Cid}
-use Rattle.item.specs.declared.Cid.the-variants.{Of, NoCid}
+use Rattle.kinds.specs.declared.Cid.{Cid}
+use Rattle.kinds.specs.declared.Cid.the-variants.{Of, NoCid}
 use Rattle.item.specs.declared.Item.{Item}
 use Rattle.item.specs.declared.Item.the-variants as items
 use Rattle.item.specs.declared.Record.{Record}
-use Rattle.item.specs.declared.Taken.{Taken}
 
 -- ten numbers and arguments stand beside the enum; the client of PlayerDiff, PlayerNew and PlayerOld belongs to the kind
 abbrev pub itemOf : Item → Content Part
@@ -38,26 +35,26 @@ itemOf (items.Message cid msg) = content (Plain kinds.Message) (num cid ∷ byte
 itemOf (items.Join cid) = content (Plain kinds.Join) (num cid ∷ [])
 itemOf (items.Drop cid reason) = content (Plain kinds.Drop) (num cid ∷ bytes reason ∷ [])
 itemOf (items.ConsoleCommand cid flag-mask cmd) = content (Plain kinds.ConsoleCommand) (num cid ∷ num (pos flag-mask) ∷ bytes cmd ∷ [])
-itemOf (items.Antibot load) = content (Named 0) (bytes load ∷ [])
-itemOf (items.AuthInit cid level identity) = content (Named 1) (num cid ∷ num level ∷ bytes identity ∷ [])
-itemOf (items.AuthLogin cid level identity) = content (Named 2) (num cid ∷ num level ∷ bytes identity ∷ [])
-itemOf (items.AuthLogout cid) = content (Named 3) (num cid ∷ [])
-itemOf (items.Ddnetver cid connection-id ddnet-version ddnet-version-str) = content (Named 4) (num cid ∷ bytes (idPart connection-id) ∷ num ddnet-version ∷ bytes ddnet-version-str ∷ [])
-itemOf (items.DdnetverOld cid ddnet-version) = content (Named 5) (num cid ∷ num ddnet-version ∷ [])
-itemOf (items.Joinver6 cid) = content (Named 6) (num cid ∷ [])
-itemOf (items.Joinver7 cid) = content (Named 7) (num cid ∷ [])
-itemOf (items.PlayerFinish cid time-ticks) = content (Named 8) (num cid ∷ num time-ticks ∷ [])
-itemOf (items.PlayerName cid name) = content (Named 9) (num cid ∷ bytes name ∷ [])
-itemOf (items.PlayerReady cid) = content (Named 10) (num cid ∷ [])
-itemOf (items.PlayerRejoin cid) = content (Named 11) (num cid ∷ [])
-itemOf (items.PlayerSwap cid1 cid2) = content (Named 12) (num cid1 ∷ num cid2 ∷ [])
-itemOf (items.PlayerTeam cid team) = content (Named 13) (num cid ∷ num team ∷ [])
-itemOf (items.TeamFinish team time-ticks) = content (Named 14) (num team ∷ num time-ticks ∷ [])
-itemOf (items.TeamLoadFailure team) = content (Named 15) (num team ∷ [])
-itemOf (items.TeamLoadSuccess team save-uuid save) = content (Named 16) (num team ∷ bytes (idPart save-uuid) ∷ bytes save ∷ [])
-itemOf (items.TeamPractice team practice) = content (Named 17) (num team ∷ num practice ∷ [])
-itemOf (items.TeamSaveFailure team) = content (Named 18) (num team ∷ [])
-itemOf (items.TeamSaveSuccess team save-uuid save) = content (Named 19) (num team ∷ bytes (idPart save-uuid) ∷ bytes save ∷ [])
+itemOf (items.Antibot load) = content (Named extensions.Antibot) (bytes load ∷ [])
+itemOf (items.AuthInit cid level identity) = content (Named extensions.AuthInit) (num cid ∷ num level ∷ bytes identity ∷ [])
+itemOf (items.AuthLogin cid level identity) = content (Named extensions.AuthLogin) (num cid ∷ num level ∷ bytes identity ∷ [])
+itemOf (items.AuthLogout cid) = content (Named extensions.AuthLogout) (num cid ∷ [])
+itemOf (items.Ddnetver cid connection-id ddnet-version ddnet-version-str) = content (Named extensions.Ddnetver) (num cid ∷ bytes (idPart connection-id) ∷ num ddnet-version ∷ bytes ddnet-version-str ∷ [])
+itemOf (items.DdnetverOld cid ddnet-version) = content (Named extensions.DdnetverOld) (num cid ∷ num ddnet-version ∷ [])
+itemOf (items.Joinver6 cid) = content (Named extensions.Joinver6) (num cid ∷ [])
+itemOf (items.Joinver7 cid) = content (Named extensions.Joinver7) (num cid ∷ [])
+itemOf (items.PlayerFinish cid time-ticks) = content (Named extensions.PlayerFinish) (num cid ∷ num time-ticks ∷ [])
+itemOf (items.PlayerName cid name) = content (Named extensions.PlayerName) (num cid ∷ bytes name ∷ [])
+itemOf (items.PlayerReady cid) = content (Named extensions.PlayerReady) (num cid ∷ [])
+itemOf (items.PlayerRejoin cid) = content (Named extensions.PlayerRejoin) (num cid ∷ [])
+itemOf (items.PlayerSwap cid1 cid2) = content (Named extensions.PlayerSwap) (num cid1 ∷ num cid2 ∷ [])
+itemOf (items.PlayerTeam cid team) = content (Named extensions.PlayerTeam) (num cid ∷ num team ∷ [])
+itemOf (items.TeamFinish team time-ticks) = content (Named extensions.TeamFinish) (num team ∷ num time-ticks ∷ [])
+itemOf (items.TeamLoadFailure team) = content (Named extensions.TeamLoadFailure) (num team ∷ [])
+itemOf (items.TeamLoadSuccess team save-uuid save) = content (Named extensions.TeamLoadSuccess) (num team ∷ bytes (idPart save-uuid) ∷ bytes save ∷ [])
+itemOf (items.TeamPractice team practice) = content (Named extensions.TeamPractice) (num team ∷ num practice ∷ [])
+itemOf (items.TeamSaveFailure team) = content (Named extensions.TeamSaveFailure) (num team ∷ [])
+itemOf (items.TeamSaveSuccess team save-uuid save) = content (Named extensions.TeamSaveSuccess) (num team ∷ bytes (idPart save-uuid) ∷ bytes save ∷ [])
 itemOf (items.UnknownEx id load) = content Other (bytes (idPart id) ∷ bytes load ∷ [])
 
 -- ---- the client of a record, or none
@@ -68,23 +65,9 @@ firstNumber (num z ∷ vs) = z
 firstNumber (bytes p ∷ vs) = pos 0
 firstNumber (strings ps ∷ vs) = pos 0
 
-abbrev pub kindCid : Kind → ℤ → Cid
-kindCid (kinds.PlayerDiff c) z = Of c
-kindCid kinds.Finish z = NoCid
-kindCid kinds.TickSkip z = NoCid
-kindCid (kinds.PlayerNew c) z = Of c
-kindCid (kinds.PlayerOld c) z = Of c
-kindCid kinds.InputDiff z = Of z
-kindCid kinds.InputNew z = Of z
-kindCid kinds.Message z = Of z
-kindCid kinds.Join z = Of z
-kindCid kinds.Drop z = Of z
-kindCid kinds.ConsoleCommand z = Of z
-kindCid kinds.Ex z = NoCid
-
 abbrev pub tagCid : Tag → ℤ → Cid
 tagCid (Plain k) z = kindCid k z
-tagCid (Named k) z = cond (hasClient k) (Of z) NoCid
+tagCid (Named e) z = cond (hasClient e) (Of z) NoCid
 tagCid Other z = NoCid
 
 -- the largest client rises to it (rule 5)
@@ -94,10 +77,10 @@ cidOf c = tagCid (c .tag) (firstNumber (c .values))
 -- the kind's number: -11 for every extension
 abbrev pub tagNumber : Tag → ℤ
 tagNumber (Plain k) = kindNumber k
-tagNumber (Named k) = negsuc 10
+tagNumber (Named e) = negsuc 10
 tagNumber Other = negsuc 10
 
--- ---- a record taken apart: its tag, and the fields that the code keeps its values in
+-- ---- the fields whose values stand in a record
 
 abbrev pub ownRest : Rest → List Field
 ownRest (fields fs gs) = fs
@@ -106,47 +89,34 @@ ownRest extension = []
 abbrev pub ownPayload : Payload → List Field
 ownPayload (shaped fs) = fs
 ownPayload whole = blob ∷ []
-ownPayload unknown = uuid ∷ blob ∷ []
 
 abbrev pub ownFields : Tag → List Field
 ownFields (Plain k) = ownRest (restOf k)
-ownFields (Named k) = ownPayload (payloadAt k)
+ownFields (Named e) = ownPayload (payloadAt e)
 ownFields Other = uuid ∷ blob ∷ []
 
-abbrev pub fromFields : Tag → Fields → Content Part
-fromFields t f = content t (valuesIn (ownFields t) f)
-
-abbrev pub takenOf : Tag → ℤ → ℤ → ℕ → Part → Taken
-takenOf t a b id p = record { tag = t; fields = fieldsWith a b id p }
-
--- the tag and the fields hold the record's values, and the unused fields are blank
-pub record TakenApart (i : Item) (t : Taken) : Type 0 where
-  pub values : fromFields (t .tag) (t .fields) ≡ itemOf i
-  pub blank : tidyFields (ownFields (t .tag)) (t .fields) ≡ t .fields
+-- a record without what stands beside it
+abbrev pub ownContent : Content Part → Content Part
+ownContent c = content (c .tag) (take (length (ownFields (c .tag))) (c .values))
 
 -- ---- with what stands beside the enum
 
+abbrev pub besideValues : Beside → List ℤ → Args → List (Value Part)
+besideValues nothing zs xs = []
+besideValues ten zs xs = map num zs
+besideValues arguments zs xs = strings (take (xs .count) (xs .parts)) ∷ []
+besideValues ofExtension zs xs = []
+
 abbrev pub besideKind : Kind → List ℤ → Args → List (Value Part)
-besideKind (kinds.PlayerDiff c) ten xs = []
-besideKind kinds.Finish ten xs = []
-besideKind kinds.TickSkip ten xs = []
-besideKind (kinds.PlayerNew c) ten xs = []
-besideKind (kinds.PlayerOld c) ten xs = []
-besideKind kinds.InputDiff ten xs = map num ten
-besideKind kinds.InputNew ten xs = map num ten
-besideKind kinds.Message ten xs = []
-besideKind kinds.Join ten xs = []
-besideKind kinds.Drop ten xs = []
-besideKind kinds.ConsoleCommand ten xs = strings (take (xs .count) (xs .parts)) ∷ []
-besideKind kinds.Ex ten xs = []
+besideKind k zs xs = besideValues (kindRow k .beside) zs xs
 
 abbrev pub beside : Tag → List ℤ → Args → List (Value Part)
-beside (Plain k) ten xs = besideKind k ten xs
-beside (Named k) ten xs = []
-beside Other ten xs = []
+beside (Plain k) zs xs = besideKind k zs xs
+beside (Named e) zs xs = []
+beside Other zs xs = []
 
 abbrev pub withBeside : Content Part → List ℤ → Args → Content Part
-withBeside c ten xs = content (c .tag) (c .values ++ beside (c .tag) ten xs)
+withBeside c zs xs = content (c .tag) (c .values ++ beside (c .tag) zs xs)
 
 -- a whole record
 abbrev pub recordOf : Record → Content Part
@@ -157,28 +127,33 @@ abbrev pub noArgs : Args
 noArgs = argsWith []
 
 abbrev pub recordWith : Item → List ℤ → Args → Record
-recordWith i ten xs = record { item = i; input = ten; args = xs }
+recordWith i zs xs = record { item = i; input = zs; args = xs }
 
 abbrev pub blank : Record
 blank = recordWith items.Finish (zeros 10) noArgs
 
+-- of what stands beside a record, that which belongs to it
+abbrev pub inputIn : Beside → List ℤ → List ℤ
+inputIn nothing zs = zeros 10
+inputIn ten zs = zs
+inputIn arguments zs = zeros 10
+inputIn ofExtension zs = zeros 10
+
+abbrev pub argsIn : Beside → Args → Args
+argsIn nothing xs = noArgs
+argsIn ten xs = noArgs
+argsIn arguments xs = argsWith (take (xs .count) (xs .parts))
+argsIn ofExtension xs = noArgs
+
+abbrev pub tidyBeside : Beside → Record → Record
+tidyBeside b r = recordWith (r .item) (inputIn b (r .input)) (argsIn b (r .args))
+
 abbrev pub tidyKind : Kind → Record → Record
-tidyKind (kinds.PlayerDiff c) r = recordWith (r .item) (zeros 10) noArgs
-tidyKind kinds.Finish r = recordWith (r .item) (zeros 10) noArgs
-tidyKind kinds.TickSkip r = recordWith (r .item) (zeros 10) noArgs
-tidyKind (kinds.PlayerNew c) r = recordWith (r .item) (zeros 10) noArgs
-tidyKind (kinds.PlayerOld c) r = recordWith (r .item) (zeros 10) noArgs
-tidyKind kinds.InputDiff r = recordWith (r .item) (r .input) noArgs
-tidyKind kinds.InputNew r = recordWith (r .item) (r .input) noArgs
-tidyKind kinds.Message r = recordWith (r .item) (zeros 10) noArgs
-tidyKind kinds.Join r = recordWith (r .item) (zeros 10) noArgs
-tidyKind kinds.Drop r = recordWith (r .item) (zeros 10) noArgs
-tidyKind kinds.ConsoleCommand r = recordWith (r .item) (zeros 10) (argsWith (take (r .args .count) (r .args .parts)))
-tidyKind kinds.Ex r = recordWith (r .item) (zeros 10) noArgs
+tidyKind k r = tidyBeside (kindRow k .beside) r
 
 abbrev pub tidyTag : Tag → Record → Record
 tidyTag (Plain k) r = tidyKind k r
-tidyTag (Named k) r = recordWith (r .item) (zeros 10) noArgs
+tidyTag (Named e) r = recordWith (r .item) (zeros 10) noArgs
 tidyTag Other r = recordWith (r .item) (zeros 10) noArgs
 
 abbrev pub tidyRecord : Record → Record

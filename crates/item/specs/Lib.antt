@@ -1,7 +1,4 @@
 pub mod Said
-pub mod Kinds
-pub mod Extensions
 pub mod Records
 pub mod Contents
-pub mod Magic
-pub mod Views
+pub mod Taken

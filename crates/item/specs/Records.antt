@@ -12,11 +12,6 @@ use Rattle.packer.specs.declared.PartRead.{PartRead}
 use Rattle.packer.specs.declared.PartRead.the-variants as parts
 use Rattle.fields.specs.Fields.{
   Field,
-  int,
-  dt,
-  mask,
-  str,
-  blob,
   args,
   Value,
   bytes,
@@ -30,15 +25,30 @@ use Rattle.fields.specs.Fields.{
 use Rattle.fields.specs.Remarks.{remarkIn, ifGot, remarks}
 use Rattle.fields.specs.Views.{tenFields}
 use Rattle.item.specs.Said.{Said, gives, refusing, outOfBytes}
-use Rattle.item.specs.Kinds.{readKind}
-use Rattle.item.specs.Extensions.{Payload, shaped, whole, unknown, find, payloadAt}
-use Rattle.item.specs.declared.Version.{Version}
-use Rattle.item.specs.declared.Kind.{Kind}
-use Rattle.item.specs.declared.Kind.the-variants as kinds
+use Rattle.kinds.specs.Kinds.{
+  readKind,
+  Client,
+  nowhere,
+  isNumber,
+  following,
+  first,
+  Beside,
+  nothing,
+  ten,
+  arguments,
+  ofExtension,
+  kindRow,
+}
+use Rattle.extensions.specs.Extensions.{Payload, shaped, whole, find, payloadAt}
+use Rattle.extensions.specs.declared.Extension.{Extension}
+use Rattle.extensions.specs.declared.Found.{Found}
+use Rattle.extensions.specs.declared.Found.the-variants.{Known, Unknown}
+use Rattle.kinds.specs.declared.Version.{Version}
+use Rattle.kinds.specs.declared.Kind.{Kind}
 use Rattle.item.specs.declared.Tag.{Tag}
 use Rattle.item.specs.declared.Tag.the-variants.{Plain, Named, Other}
 
--- ---- what a record is: which record (its kind; its place among the 20 extensions; another extension), and the values of its fields
+-- ---- what a record is: which record (its kind; one of the 20 extensions; another extension), and the values of its fields
 
 pub record Content (A : Type 0) : Type 0 where
   pub tag : Tag
@@ -58,19 +68,14 @@ pub data Rest : Type 0 where
   fields : List Field → List Field → Rest
   extension : Rest
 
+abbrev pub restBy : List Field → Beside → Rest
+restBy fs nothing = fields fs []
+restBy fs ten = fields fs tenFields
+restBy fs arguments = fields fs (args ∷ [])
+restBy fs ofExtension = extension
+
 abbrev pub restOf : Kind → Rest
-restOf (kinds.PlayerDiff c) = fields (int ∷ int ∷ []) []
-restOf kinds.Finish = fields [] []
-restOf kinds.TickSkip = fields (dt ∷ []) []
-restOf (kinds.PlayerNew c) = fields (int ∷ int ∷ []) []
-restOf (kinds.PlayerOld c) = fields [] []
-restOf kinds.InputDiff = fields (int ∷ []) tenFields
-restOf kinds.InputNew = fields (int ∷ []) tenFields
-restOf kinds.Message = fields (int ∷ blob ∷ []) []
-restOf kinds.Join = fields (int ∷ []) []
-restOf kinds.Drop = fields (int ∷ str ∷ []) []
-restOf kinds.ConsoleCommand = fields (int ∷ mask ∷ str ∷ []) (args ∷ [])
-restOf kinds.Ex = extension
+restOf k = restBy (kindRow k .own) (kindRow k .beside)
 
 abbrev pub asContent : Tag → Reading (List (Value Part)) → Reading (Content Part)
 asContent t (got vs next) = got (content t vs) next
@@ -84,13 +89,17 @@ upTo end runsOut = runsOut
 upTo end (refused r) = refused r
 
 -- an extension's data, the part p, which ends at next, is read by itself: a window that ends there
-abbrev pub ofPayload : List ℕ → Part → Part → ℕ → Payload → ℕ → Reading (Content Part)
-ofPayload s id p k (shaped fs) next = upTo next (asContent (Named k) (readFields fs (take next s) (p .at)))
-ofPayload s id p k whole next = got (content (Named k) (bytes p ∷ [])) next
-ofPayload s id p k unknown next = got (content Other (bytes id ∷ bytes p ∷ [])) next
+abbrev pub ofPayload : List ℕ → Part → Extension → Payload → ℕ → Reading (Content Part)
+ofPayload s p e (shaped fs) next = upTo next (asContent (Named e) (readFields fs (take next s) (p .at)))
+ofPayload s p e whole next = got (content (Named e) (bytes p ∷ [])) next
+
+-- by what is found of the identifier
+abbrev pub ofFound : List ℕ → Part → Part → Found → ℕ → Reading (Content Part)
+ofFound s id p (Known e) next = ofPayload s p e (payloadAt e) next
+ofFound s id p Unknown next = got (content Other (bytes id ∷ bytes p ∷ [])) next
 
 abbrev pub afterData : List ℕ → Part → PartRead → Reading (Content Part)
-afterData s id (parts.Got p next) = ofPayload s id p (find (shown s id)) (payloadAt (find (shown s id))) next
+afterData s id (parts.Got p next) = ofFound s id p (find (shown s id)) next
 afterData s id parts.RunsOut = runsOut
 
 abbrev pub afterId : List ℕ → PartRead → Reading (Content Part)
@@ -135,10 +144,13 @@ spareIn fs s at end = ifGot (readFields fs s at) (λ next. end - next)
 abbrev pub payloadRemarks : List ℕ → Part → Payload → ℕ → ℕ
 payloadRemarks s p (shaped fs) next = remarks fs (take next s) (p .at) + spareIn fs (take next s) (p .at) next
 payloadRemarks s p whole next = 0
-payloadRemarks s p unknown next = 0
+
+abbrev pub foundRemarks : List ℕ → Part → Found → ℕ → ℕ
+foundRemarks s p (Known e) next = payloadRemarks s p (payloadAt e) next
+foundRemarks s p Unknown next = 0
 
 abbrev pub dataRemarks : List ℕ → Part → PartRead → ℕ
-dataRemarks s id (parts.Got p next) = payloadRemarks s p (payloadAt (find (shown s id))) next
+dataRemarks s id (parts.Got p next) = foundRemarks s p (find (shown s id)) next
 dataRemarks s id parts.RunsOut = 0
 
 abbrev pub idRemarks : List ℕ → PartRead → ℕ
@@ -152,22 +164,16 @@ abbrev pub restRemarks : List ℕ → Rest → ℕ → ℕ
 restRemarks s (fields fs gs) at = remarks (fs ++ gs) s at
 restRemarks s extension at = exRemarks s at
 
--- the client of PlayerNew and PlayerOld belongs to the kind
+-- a client that follows the number
+abbrev pub followingRemark : Client → List ℕ → IntRead → ℕ
+followingRemark nowhere s i = 0
+followingRemark (isNumber c) s i = 0
+followingRemark (following c) s (ints.Got z next remark) = remarkIn (readInt s next)
+followingRemark (following c) s ints.RunsOut = 0
+followingRemark first s i = 0
+
 abbrev pub clientRemark : Kind → List ℕ → IntRead → ℕ
-clientRemark (kinds.PlayerDiff c) s i = 0
-clientRemark kinds.Finish s i = 0
-clientRemark kinds.TickSkip s i = 0
-clientRemark (kinds.PlayerNew c) s (ints.Got z next remark) = remarkIn (readInt s next)
-clientRemark (kinds.PlayerNew c) s ints.RunsOut = 0
-clientRemark (kinds.PlayerOld c) s (ints.Got z next remark) = remarkIn (readInt s next)
-clientRemark (kinds.PlayerOld c) s ints.RunsOut = 0
-clientRemark kinds.InputDiff s i = 0
-clientRemark kinds.InputNew s i = 0
-clientRemark kinds.Message s i = 0
-clientRemark kinds.Join s i = 0
-clientRemark kinds.Drop s i = 0
-clientRemark kinds.ConsoleCommand s i = 0
-clientRemark kinds.Ex s i = 0
+clientRemark k s i = followingRemark (kindRow k .client) s i
 
 abbrev pub remarksAfter : List ℕ → IntRead → Reading Kind → ℕ
 remarksAfter s i (got kind next) = remarkIn i + (clientRemark kind s i + restRemarks s (restOf kind) next)

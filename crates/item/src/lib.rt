@@ -1,90 +1,18 @@
-// Records (format/item.rs, format/mod.rs): versions, kinds, and the records themselves by the Rust's names.
+// Records (format/item.rs) by the Rust's names.
 ghost use mathlib.Core.Path.{_≡_};
-ghost use Rattle.varint.specs.Integers.{readInt};
-ghost use Rattle.item.specs.Extensions.{hasClient};
-ghost use Rattle.item.specs.Kinds.{playerKind, withClient, kindOf, readKind, kindNumber};
-ghost use Rattle.item.specs.Contents.{itemOf, kindCid, cidOf, tagNumber, takenOf, TakenApart};
-ghost use Rattle.item.specs.Magic.{versionOf};
-ghost use Rattle.item.specs.Views.{kindIs, versionIs};
+ghost use Rattle.item.specs.Contents.{itemOf, cidOf, tagNumber};
+ghost use Rattle.item.specs.Taken.{takenOf, TakenApart};
+use extensions::Extension;
 use fields::Args;
+use kinds::Cid;
+use kinds::Kind;
 use packer::Part;
-use refusal::Refusal;
 use shapes::Fields;
-use varint::IntRead;
 
-pub enum Version {
-    V1,
-    V2,
-}
-
-pub enum VersionOf {
-    Is(Version),
-    Refused(Refusal),
-}
-
-// What a record is, by its first integer; the client belongs to the kind of a player record.
-pub enum Kind {
-    PlayerDiff(i32),
-    Finish,
-    TickSkip,
-    PlayerNew(i32),
-    PlayerOld(i32),
-    InputDiff,
-    InputNew,
-    Message,
-    Join,
-    Drop,
-    ConsoleCommand,
-    Ex,
-}
-
-impl Kind {
-    pub const FINISH: i32 = -1;
-
-    pub const TICK_SKIP: i32 = -2;
-
-    pub const PLAYER_NEW: i32 = -3;
-
-    pub const PLAYER_OLD: i32 = -4;
-
-    pub const INPUT_DIFF: i32 = -5;
-
-    pub const INPUT_NEW: i32 = -6;
-
-    pub const MESSAGE: i32 = -7;
-
-    pub const JOIN: i32 = -8;
-
-    pub const DROP: i32 = -9;
-
-    pub const CONSOLE_COMMAND: i32 = -10;
-
-    pub const EX: i32 = -11;
-
-    pub fn number(self) -> i32
-        ensures { λ r. ⌜ r ≡ kindNumber self ⌝ }
-    {
-        match self {
-            Kind::PlayerDiff(cid) => cid,
-            Kind::Finish => Kind::FINISH,
-            Kind::TickSkip => Kind::TICK_SKIP,
-            Kind::PlayerNew(_) => Kind::PLAYER_NEW,
-            Kind::PlayerOld(_) => Kind::PLAYER_OLD,
-            Kind::InputDiff => Kind::INPUT_DIFF,
-            Kind::InputNew => Kind::INPUT_NEW,
-            Kind::Message => Kind::MESSAGE,
-            Kind::Join => Kind::JOIN,
-            Kind::Drop => Kind::DROP,
-            Kind::ConsoleCommand => Kind::CONSOLE_COMMAND,
-            Kind::Ex => Kind::EX,
-        }
-    }
-}
-
-// Which record: a kind other than the extension's, one of the 20 extensions by its place in docs/FORMAT.md, another extension.
+// Which record: a kind other than the extension's, one of the 20 extensions, another extension.
 pub enum Tag {
     Plain(Kind),
-    Named(usize),
+    Named(Extension),
     Other,
 }
 
@@ -221,130 +149,10 @@ pub struct Record {
     pub args: Args,
 }
 
-pub enum KindRead {
-    Got { kind: Kind, next: usize },
-    RunsOut,
-    Refused(Refusal),
-}
-
-pub enum MagicRead {
-    Used(usize),
-    Refused(Refusal),
-}
-
-// A client, or none.
-pub enum Cid {
-    Of(i32),
-    NoCid,
-}
-
 // A record taken apart.
 pub struct Taken {
     pub tag: Tag,
     pub fields: Fields,
-}
-
-pub fn version_of(number: i32) -> VersionOf
-    ensures { λ r. ⌜ versionIs r ≡ versionOf number ⌝ }
-{
-    match number {
-        1 => VersionOf::Is(Version::V1),
-        2 => VersionOf::Is(Version::V2),
-        _ => VersionOf::Refused(Refusal::UnknownVersion),
-    }
-}
-
-// The client of a player kind, at a place of the window.
-fn with_client(old: bool, s: &[u8], at: usize) -> KindRead
-    ensures { λ r. ⌜ kindIs r ≡ withClient (playerKind old) (readInt (now (s .entry)) at) ⌝ }
-{
-    let IntRead::Got {
-        value: cid,
-        next,
-        remark: _,
-    } = varint::read_int(s, at)
-    else {
-        return KindRead::RunsOut;
-    };
-    if old {
-        return KindRead::Got {
-            kind: Kind::PlayerOld(cid),
-            next,
-        };
-    }
-    KindRead::Got {
-        kind: Kind::PlayerNew(cid),
-        next,
-    }
-}
-
-// What the number says that was read as a kind; next is the place past it.
-fn kind_of(version: Version, s: &[u8], number: i32, next: usize) -> KindRead
-    ensures { λ r. ⌜ kindIs r ≡ kindOf version (now (s .entry)) number next ⌝ }
-{
-    match number {
-        0..=2147483647 => KindRead::Got {
-            kind: Kind::PlayerDiff(number),
-            next,
-        },
-        Kind::FINISH => KindRead::Got {
-            kind: Kind::Finish,
-            next,
-        },
-        Kind::TICK_SKIP => KindRead::Got {
-            kind: Kind::TickSkip,
-            next,
-        },
-        Kind::PLAYER_NEW => with_client(false, s, next),
-        Kind::PLAYER_OLD => with_client(true, s, next),
-        Kind::INPUT_DIFF => KindRead::Got {
-            kind: Kind::InputDiff,
-            next,
-        },
-        Kind::INPUT_NEW => KindRead::Got {
-            kind: Kind::InputNew,
-            next,
-        },
-        Kind::MESSAGE => KindRead::Got {
-            kind: Kind::Message,
-            next,
-        },
-        Kind::JOIN => KindRead::Got {
-            kind: Kind::Join,
-            next,
-        },
-        Kind::DROP => KindRead::Got {
-            kind: Kind::Drop,
-            next,
-        },
-        Kind::CONSOLE_COMMAND => KindRead::Got {
-            kind: Kind::ConsoleCommand,
-            next,
-        },
-        Kind::EX => match version {
-            Version::V1 => KindRead::Refused(Refusal::UnknownType(number)),
-            Version::V2 => KindRead::Got {
-                kind: Kind::Ex,
-                next,
-            },
-        },
-        _ => KindRead::Refused(Refusal::UnknownType(number)),
-    }
-}
-
-// The kind at a place of the window.
-pub fn read_kind(version: Version, s: &[u8], at: usize) -> KindRead
-    ensures { λ r. ⌜ kindIs r ≡ readKind version (now (s .entry)) at ⌝ }
-{
-    let IntRead::Got {
-        value,
-        next,
-        remark: _,
-    } = varint::read_int(s, at)
-    else {
-        return KindRead::RunsOut;
-    };
-    kind_of(version, s, value, next)
 }
 
 const NO_PART: Part = Part { at: 0, len: 0 };
@@ -360,37 +168,6 @@ fn taken_with(tag: Tag, first: i32, second: i32, uuid: usize, text: Part) -> Tak
             uuid,
             text,
         },
-    }
-}
-
-// The client of a plain record whose first number this is.
-fn kind_cid(kind: Kind, first: i32) -> Cid
-    ensures { λ r. ⌜ r ≡ kindCid kind first ⌝ }
-{
-    match kind {
-        Kind::PlayerDiff(cid) => Cid::Of(cid),
-        Kind::Finish => Cid::NoCid,
-        Kind::TickSkip => Cid::NoCid,
-        Kind::PlayerNew(cid) => Cid::Of(cid),
-        Kind::PlayerOld(cid) => Cid::Of(cid),
-        Kind::InputDiff => Cid::Of(first),
-        Kind::InputNew => Cid::Of(first),
-        Kind::Message => Cid::Of(first),
-        Kind::Join => Cid::Of(first),
-        Kind::Drop => Cid::Of(first),
-        Kind::ConsoleCommand => Cid::Of(first),
-        Kind::Ex => Cid::NoCid,
-    }
-}
-
-// Whether the first number of extension k is the record's client.
-fn has_client(k: usize) -> bool
-    ensures { λ r. ⌜ r ≡ hasClient k ⌝ }
-{
-    match k {
-        1..=11 => true,
-        13 => true,
-        _ => false,
     }
 }
 
@@ -445,77 +222,149 @@ impl Item {
                 0,
                 cmd,
             ),
-            Item::Antibot { data } => taken_with(Tag::Named(0), 0, 0, 0, data),
+            Item::Antibot { data } => taken_with(Tag::Named(Extension::Antibot), 0, 0, 0, data),
             Item::AuthInit {
                 cid,
                 level,
                 identity,
-            } => taken_with(Tag::Named(1), cid, level, 0, identity),
+            } => taken_with(Tag::Named(Extension::AuthInit), cid, level, 0, identity),
             Item::AuthLogin {
                 cid,
                 level,
                 identity,
-            } => taken_with(Tag::Named(2), cid, level, 0, identity),
-            Item::AuthLogout { cid } => taken_with(Tag::Named(3), cid, 0, 0, NO_PART),
+            } => taken_with(Tag::Named(Extension::AuthLogin), cid, level, 0, identity),
+            Item::AuthLogout { cid } => taken_with(
+                Tag::Named(Extension::AuthLogout),
+                cid,
+                0,
+                0,
+                NO_PART,
+            ),
             Item::Ddnetver {
                 cid,
                 connection_id,
                 ddnet_version,
                 ddnet_version_str,
             } => taken_with(
-                Tag::Named(4),
+                Tag::Named(Extension::Ddnetver),
                 cid,
                 ddnet_version,
                 connection_id,
                 ddnet_version_str,
             ),
             Item::DdnetverOld { cid, ddnet_version } => taken_with(
-                Tag::Named(5),
+                Tag::Named(Extension::DdnetverOld),
                 cid,
                 ddnet_version,
                 0,
                 NO_PART,
             ),
-            Item::Joinver6 { cid } => taken_with(Tag::Named(6), cid, 0, 0, NO_PART),
-            Item::Joinver7 { cid } => taken_with(Tag::Named(7), cid, 0, 0, NO_PART),
+            Item::Joinver6 { cid } => taken_with(
+                Tag::Named(Extension::Joinver6),
+                cid,
+                0,
+                0,
+                NO_PART,
+            ),
+            Item::Joinver7 { cid } => taken_with(
+                Tag::Named(Extension::Joinver7),
+                cid,
+                0,
+                0,
+                NO_PART,
+            ),
             Item::PlayerFinish { cid, time_ticks } => taken_with(
-                Tag::Named(8),
+                Tag::Named(Extension::PlayerFinish),
                 cid,
                 time_ticks,
                 0,
                 NO_PART,
             ),
-            Item::PlayerName { cid, name } => taken_with(Tag::Named(9), cid, 0, 0, name),
-            Item::PlayerReady { cid } => taken_with(Tag::Named(10), cid, 0, 0, NO_PART),
-            Item::PlayerRejoin { cid } => taken_with(Tag::Named(11), cid, 0, 0, NO_PART),
-            Item::PlayerSwap { cid1, cid2 } => taken_with(Tag::Named(12), cid1, cid2, 0, NO_PART),
-            Item::PlayerTeam { cid, team } => taken_with(Tag::Named(13), cid, team, 0, NO_PART),
+            Item::PlayerName { cid, name } => taken_with(
+                Tag::Named(Extension::PlayerName),
+                cid,
+                0,
+                0,
+                name,
+            ),
+            Item::PlayerReady { cid } => taken_with(
+                Tag::Named(Extension::PlayerReady),
+                cid,
+                0,
+                0,
+                NO_PART,
+            ),
+            Item::PlayerRejoin { cid } => taken_with(
+                Tag::Named(Extension::PlayerRejoin),
+                cid,
+                0,
+                0,
+                NO_PART,
+            ),
+            Item::PlayerSwap { cid1, cid2 } => taken_with(
+                Tag::Named(Extension::PlayerSwap),
+                cid1,
+                cid2,
+                0,
+                NO_PART,
+            ),
+            Item::PlayerTeam { cid, team } => taken_with(
+                Tag::Named(Extension::PlayerTeam),
+                cid,
+                team,
+                0,
+                NO_PART,
+            ),
             Item::TeamFinish { team, time_ticks } => taken_with(
-                Tag::Named(14),
+                Tag::Named(Extension::TeamFinish),
                 team,
                 time_ticks,
                 0,
                 NO_PART,
             ),
-            Item::TeamLoadFailure { team } => taken_with(Tag::Named(15), team, 0, 0, NO_PART),
+            Item::TeamLoadFailure { team } => taken_with(
+                Tag::Named(Extension::TeamLoadFailure),
+                team,
+                0,
+                0,
+                NO_PART,
+            ),
             Item::TeamLoadSuccess {
                 team,
                 save_uuid,
                 save,
-            } => taken_with(Tag::Named(16), team, 0, save_uuid, save),
+            } => taken_with(
+                Tag::Named(Extension::TeamLoadSuccess),
+                team,
+                0,
+                save_uuid,
+                save,
+            ),
             Item::TeamPractice { team, practice } => taken_with(
-                Tag::Named(17),
+                Tag::Named(Extension::TeamPractice),
                 team,
                 practice,
                 0,
                 NO_PART,
             ),
-            Item::TeamSaveFailure { team } => taken_with(Tag::Named(18), team, 0, 0, NO_PART),
+            Item::TeamSaveFailure { team } => taken_with(
+                Tag::Named(Extension::TeamSaveFailure),
+                team,
+                0,
+                0,
+                NO_PART,
+            ),
             Item::TeamSaveSuccess {
                 team,
                 save_uuid,
                 save,
-            } => taken_with(Tag::Named(19), team, 0, save_uuid, save),
+            } => taken_with(
+                Tag::Named(Extension::TeamSaveSuccess),
+                team,
+                0,
+                save_uuid,
+                save,
+            ),
             Item::UnknownEx { uuid, data } => taken_with(Tag::Other, 0, 0, uuid, data),
         }
     }
@@ -528,9 +377,9 @@ impl Item {
         let tag = t.tag;
         let first = t.fields.first;
         match tag {
-            Tag::Plain(kind) => kind_cid(kind, first),
-            Tag::Named(k) => {
-                if has_client(k) {
+            Tag::Plain(kind) => kind.cid(first),
+            Tag::Named(which) => {
+                if extensions::has_client(which) {
                     return Cid::Of(first);
                 }
                 Cid::NoCid

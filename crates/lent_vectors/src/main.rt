@@ -1,10 +1,10 @@
 // The reading call on lent memory and the call of many events, run. First each cause of refusal 17, a closed reader (18) and an open one:
 // by the lent call, by a call of many events and by one that has no room for an event, with what became of the memory lent. Then bodies
 // by the lent call, as lines of the replay program; standard input holds them as that of reader_vectors does.
-use item::Cid;
-use item::Kind;
-use item::Version;
-use item::VersionOf;
+use kinds::Cid;
+use kinds::Kind;
+use kinds::Version;
+use kinds::VersionOf;
 use libc::STDOUT_FILENO;
 use lines::Ending;
 use many::Stop;
@@ -363,7 +363,7 @@ fn run_case(input: &[u8]) {
         print_last(Ending::Refused(Refusal::UnknownVersion));
         return;
     }
-    match item::version_of(number(input[0])) {
+    match kinds::version_of(number(input[0])) {
         VersionOf::Is(version) => read_body(version, &input[1..]),
         VersionOf::Refused(r) => print_last(Ending::Refused(r)),
     }

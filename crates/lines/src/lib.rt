@@ -23,7 +23,7 @@ ghost use Rattle.lines.specs.Lines.{
   lineTarget,
 };
 ghost use Rattle.state.specs.Views.{eventIs};
-use item::Cid;
+use kinds::Cid;
 use refusal::Refusal;
 use state::Event;
 use varint::Wrote;

@@ -4,8 +4,8 @@
 ghost use mathlib.Core.Path.{_≡_};
 ghost use lib.ListN.{length};
 use back::BoardTick;
-use item::Version;
-use item::VersionOf;
+use kinds::Version;
+use kinds::VersionOf;
 use libc::STDOUT_FILENO;
 use lines::Ending;
 use packer::Part;
@@ -182,7 +182,7 @@ fn run_input(input: &[u8], each: bool) {
         print_last(Ending::Refused(Refusal::UnknownVersion));
         return;
     }
-    match item::version_of(number(input[0])) {
+    match kinds::version_of(number(input[0])) {
         VersionOf::Is(version) => read_body(version, &input[1..], each),
         VersionOf::Refused(r) => print_last(Ending::Refused(r)),
     }

@@ -6,7 +6,7 @@ use native.Mathlib.Omega.{arith}
 use lib.IntN.{ℤ, pos}
 use Rattle.item.specs.Said.{Said, gives, more, finish, refuses}
 use Rattle.item.specs.Contents.{tagNumber}
-use Rattle.item.specs.declared.Cid.{Cid}
+use Rattle.kinds.specs.declared.Cid.{Cid}
 use Rattle.state.specs.Reading.{Event, tickStart, tickEnd, playerNew, playerChange, playerOld, input, other}
 use Rattle.state.specs.Views.{slim, slimSaid}
 use Rattle.state.specs.Laws.{usedIn}

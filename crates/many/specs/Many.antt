@@ -11,8 +11,8 @@ use Rattle.refusal.specs.declared.Refusal.the-variants.{BadState, Closed}
 use Rattle.num.specs.Wrap.{wrap32}
 use Rattle.item.specs.Said.{Said, gives, more, finish, refuses}
 use Rattle.item.specs.Contents.{cidOf, tagNumber}
-use Rattle.item.specs.declared.Cid.{Cid}
-use Rattle.item.specs.declared.Cid.the-variants.{Of, NoCid}
+use Rattle.kinds.specs.declared.Cid.{Cid}
+use Rattle.kinds.specs.declared.Cid.the-variants.{Of, NoCid}
 use Rattle.state.specs.State.{Memory, goodReader}
 use Rattle.state.specs.Reading.{
   Event,

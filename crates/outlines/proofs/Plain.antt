@@ -16,10 +16,10 @@ use Rattle.packer.specs.Texts.{noZero, isData}
 use Rattle.fields.specs.Writing.{allNoZero, inside, allInside}
 use Rattle.fields.specs.declared.Args.{Args}
 use Rattle.shapes.specs.declared.Fields.{Fields}
-use Rattle.item.specs.Contents.{fromFields}
-use Rattle.item.specs.declared.Version.{Version}
-use Rattle.item.specs.declared.Kind.{Kind}
-use Rattle.item.specs.declared.Kind.the-variants as kinds
+use Rattle.item.specs.Taken.{fromFields}
+use Rattle.kinds.specs.declared.Version.{Version}
+use Rattle.kinds.specs.declared.Kind.{Kind}
+use Rattle.kinds.specs.declared.Kind.the-variants as kinds
 use Rattle.item.specs.declared.Tag.the-variants.{Plain}
 use Rattle.written.proofs.Unwritable.{ints-inside, few-args}
 use Rattle.plans.specs.Plans.{argsIn}

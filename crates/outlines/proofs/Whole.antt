@@ -1,4 +1,4 @@
--- A record is its content, and each of the 20 extensions is below 20. Assumes nothing.
+-- A record is its content. Assumes nothing.
 use Prim.Native.Nat.{ℕ, _<_}
 use mathlib.Core.Path.{_≡_, refl, sym, _∙_, subst}
 use mathlib.Core.Bool.{Bool, true, false, and-eq-true-iff}
@@ -13,13 +13,14 @@ use Rattle.packer.specs.Parts.{shown}
 use Rattle.packer.specs.declared.Part.{Part}
 use Rattle.shapes.specs.Shapes.{idPart}
 use Rattle.shapes.specs.declared.Fields.{Fields}
-use Rattle.item.specs.Extensions.{find}
+use Rattle.extensions.specs.Extensions.{find}
 use Rattle.item.specs.Records.{Content}
-use Rattle.item.specs.Contents.{itemOf, fromFields}
-use Rattle.item.specs.declared.Version.{Version}
-use Rattle.item.specs.declared.Kind.{Kind}
+use Rattle.item.specs.Contents.{itemOf}
+use Rattle.item.specs.Taken.{fromFields}
+use Rattle.kinds.specs.declared.Version.{Version}
+use Rattle.kinds.specs.declared.Kind.{Kind}
 use Rattle.item.specs.declared.Tag.{Tag}
-use Rattle.item.specs.declared.Tag.the-variants.{Plain, Named, Other}
+use Rattle.item.specs.declared.Tag.the-variants.{Plain, Other}
 use Rattle.item.specs.declared.Item.{Item}
 use Rattle.item.specs.declared.Item.the-variants as items
 use Rattle.item.specs.declared.Record.{Record}
@@ -77,47 +78,3 @@ module _ (v : Version) (s : List ℕ) (r : Record) (f : Fields) (xs : List ℕ) 
   other-writes e =
       outline-writes (otherOutline v (find (shown s (idPart (f .uuid))))) (fromFields Other f) e (other-ok s f (r .input) (r .args) v)
       (λ y. other-bytes s f (r .input) (r .args) v)
-
--- ---- extensions
-
-abbrev pub Few : Tag → Type 0
-Few (Plain k) = Unit
-Few (Named k) = k < 20
-Few Other = Unit
-
-few : (i : Item) → Few (itemOf i .tag)
-few (items.PlayerDiff a b c) = tt
-few items.Finish = tt
-few (items.TickSkip a) = tt
-few (items.PlayerNew a b c) = tt
-few (items.PlayerOld a) = tt
-few (items.InputDiff a) = tt
-few (items.InputNew a) = tt
-few (items.Message a b) = tt
-few (items.Join a) = tt
-few (items.Drop a b) = tt
-few (items.ConsoleCommand a b c) = tt
-few (items.Antibot a) = omega arith
-few (items.AuthInit a b c) = omega arith
-few (items.AuthLogin a b c) = omega arith
-few (items.AuthLogout a) = omega arith
-few (items.Ddnetver a b c d) = omega arith
-few (items.DdnetverOld a b) = omega arith
-few (items.Joinver6 a) = omega arith
-few (items.Joinver7 a) = omega arith
-few (items.PlayerFinish a b) = omega arith
-few (items.PlayerName a b) = omega arith
-few (items.PlayerReady a) = omega arith
-few (items.PlayerRejoin a) = omega arith
-few (items.PlayerSwap a b) = omega arith
-few (items.PlayerTeam a b) = omega arith
-few (items.TeamFinish a b) = omega arith
-few (items.TeamLoadFailure a) = omega arith
-few (items.TeamLoadSuccess a b c) = omega arith
-few (items.TeamPractice a b) = omega arith
-few (items.TeamSaveFailure a) = omega arith
-few (items.TeamSaveSuccess a b c) = omega arith
-few (items.UnknownEx a b) = tt
-
-pub named-few : (i : Item) (k : ℕ) → itemOf i .tag ≡ Named k → k < 20
-named-few i k e = subst Few e (few i)

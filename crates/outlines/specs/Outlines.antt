@@ -1,8 +1,8 @@
 -- The outline of a record's written form, as the code has it; the record itself is taken apart into its tag and fields.
 use Prim.Native.Nat.{ℕ}
-use mathlib.Core.Bool.{Bool, true, false, cond, _&&_}
+use mathlib.Core.Bool.{Bool, true, false, _&&_}
 use mathlib.Core.List.{List, _++_, map}
-use lib.Dec.{leb, eqb}
+use lib.Dec.{leb}
 use lib.IntN.{ℤ, pos, negsuc}
 use lib.Signed.{nonNeg}
 use Rattle.varint.specs.Written.{canonical}
@@ -12,20 +12,21 @@ use Rattle.fields.specs.Writing.{partsInside}
 use Rattle.fields.specs.declared.Args.{Args}
 use Rattle.shapes.specs.declared.Shape.the-variants as shapes
 use Rattle.shapes.specs.declared.Fields.{Fields}
-use Rattle.item.specs.Extensions.{count}
+use Rattle.extensions.specs.declared.Found.{Found}
+use Rattle.extensions.specs.declared.Found.the-variants.{Known, Unknown}
 use Rattle.item.specs.Records.{Content}
 use Rattle.item.specs.Contents.{beside}
-use Rattle.item.specs.declared.Version.{Version}
-use Rattle.item.specs.declared.Version.the-variants.{V1, V2}
-use Rattle.item.specs.declared.Kind.{Kind}
-use Rattle.item.specs.declared.Kind.the-variants as kinds
+use Rattle.kinds.specs.declared.Version.{Version}
+use Rattle.kinds.specs.declared.Version.the-variants.{V1, V2}
+use Rattle.kinds.specs.declared.Kind.{Kind}
+use Rattle.kinds.specs.declared.Kind.the-variants as kinds
 use Rattle.written.specs.Written.{tagCount, tagWritable, tagBytes}
 use Rattle.plans.specs.Plans.{planWith, planOf, intIf, planBytes, planOk}
 use Rattle.plans.specs.declared.Plan.{Plan}
 use Rattle.plans.specs.declared.Text.the-variants.{Data, Whole}
 use Rattle.plans.specs.declared.Tail.the-variants.{Nothing, Numbers, Arguments}
-use Rattle.layouts.specs.declared.Layout.{Layout}
-use Rattle.layouts.specs.declared.Layout.the-variants as layouts
+use Rattle.extensions.specs.declared.Layout.{Layout}
+use Rattle.extensions.specs.declared.Layout.the-variants as layouts
 use Rattle.outlines.specs.declared.Outline.{Outline}
 
 abbrev pub outlineWith : ℤ → Bool → ℤ → ℤ → Plan → Outline
@@ -48,14 +49,14 @@ kindOutline kinds.Ex z = outlineWith (negsuc 10) false (pos 0) (negsuc 0) (planO
 abbrev pub otherWith : ℤ → Outline
 otherWith checked = outlineWith (negsuc 10) false (pos 0) checked (planWith false true false Data Nothing)
 
-abbrev pub otherOutline : Version → ℕ → Outline
+abbrev pub otherOutline : Version → Found → Outline
 otherOutline V1 found = otherWith (negsuc 0)
-otherOutline V2 found = cond (eqb found count) (otherWith (pos 0)) (otherWith (negsuc 0))
+otherOutline V2 (Known e) = otherWith (negsuc 0)
+otherOutline V2 Unknown = otherWith (pos 0)
 
 abbrev pub payloadPlan : Layout → Plan
 payloadPlan (layouts.Shaped shape) = planOf shape Nothing
 payloadPlan layouts.Whole = planWith false false false Whole Nothing
-payloadPlan layouts.Unknown = planWith false false false Whole Nothing
 
 -- ---- what an outline writes, and when
 

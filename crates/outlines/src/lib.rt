@@ -4,9 +4,10 @@ ghost use mathlib.Core.Bool.{true, false};
 ghost use lib.IntN.{pos};
 ghost use Rattle.plans.specs.Plans.{planOf};
 ghost use Rattle.outlines.specs.Outlines.{outlineWith, kindOutline, otherWith, otherOutline, payloadPlan};
-use item::Kind;
-use item::Version;
-use layouts::Layout;
+use extensions::Found;
+use extensions::Layout;
+use kinds::Kind;
+use kinds::Version;
 use plans::Plan;
 use plans::Tail;
 use plans::Text;
@@ -91,18 +92,16 @@ fn other(checked: i32) -> Outline
     }
 }
 
-// Another extension, whose identifier is found at this place among the 20: an identifier and data, in version 2, if it is none of them.
-pub fn other_outline(version: Version, found: usize) -> Outline
+// Another extension, whose identifier is looked for among the 20: an identifier and data, in version 2, if it is none of them.
+pub fn other_outline(version: Version, found: Found) -> Outline
     ensures { λ r. ⌜ r ≡ otherOutline version found ⌝ }
 {
     match version {
         Version::V1 => other(-1),
-        Version::V2 => {
-            if found == 20 {
-                return other(0);
-            }
-            other(-1)
-        }
+        Version::V2 => match found {
+            Found::Known(_) => other(-1),
+            Found::Unknown => other(0),
+        },
     }
 }
 
@@ -113,13 +112,6 @@ pub fn payload_plan(layout: Layout) -> Plan
     match layout {
         Layout::Shaped(shape) => plans::plan_of(shape, Tail::Nothing),
         Layout::Whole => Plan {
-            first: false,
-            uuid: false,
-            second: false,
-            text: Text::Whole,
-            tail: Tail::Nothing,
-        },
-        Layout::Unknown => Plan {
             first: false,
             uuid: false,
             second: false,

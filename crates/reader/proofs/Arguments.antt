@@ -12,16 +12,17 @@ use Rattle.fields.proofs.Answers.{not-out, not-refused}
 use Rattle.item.specs.Said.{Said, gives, more, finish, refuses}
 use Rattle.item.specs.Records.{Content, content, readRest}
 use Rattle.item.specs.Contents.{itemOf, beside, withBeside, noArgs, recordOf, tidyKind, tidyTag}
-use Rattle.item.specs.Views.{kindIs}
-use Rattle.item.specs.declared.Kind.{Kind}
-use Rattle.item.specs.declared.Kind.the-variants as kinds
-use Rattle.item.specs.declared.KindRead.{KindRead}
-use Rattle.item.specs.declared.KindRead.the-variants as reads
+use Rattle.kinds.specs.Views.{kindIs}
+use Rattle.kinds.specs.declared.Kind.{Kind}
+use Rattle.kinds.specs.declared.Kind.the-variants as kinds
+use Rattle.kinds.specs.declared.KindRead.{KindRead}
+use Rattle.kinds.specs.declared.KindRead.the-variants as reads
 use Rattle.item.specs.declared.Record.{Record}
 use Rattle.item.specs.declared.Tag.{Tag}
 use Rattle.item.specs.declared.Tag.the-variants.{Plain, Named, Other}
 use Rattle.refusal.specs.declared.Refusal.{Refusal}
-use Rattle.records.specs.Views.{ownContent, answerIs, tidyAnswer, RestRead}
+use Rattle.records.specs.Views.{answerIs, tidyAnswer, RestRead}
+use Rattle.item.specs.Contents.{ownContent}
 use Rattle.records.specs.declared.RecordAnswer.{RecordAnswer}
 use Rattle.records.specs.declared.RecordAnswer.the-variants as rests
 use Rattle.records.specs.declared.RecordRead.{RecordRead}
@@ -35,7 +36,8 @@ use Rattle.state.specs.declared.Answer.{Answer}
 use Rattle.state.specs.declared.Answer.the-variants as answers
 use Rattle.step.proofs.Others.{no-other, by-other, otherTag}
 use Rattle.step.proofs.Slim.{otherSaid, slim-said}
-use Rattle.reader.specs.Answers.{kindArgs, tagArgs, answerArgs, isRecord, saidWith, isCommand, ArgsFor}
+use Rattle.reader.specs.Answers.{kindArgs, tagArgs, answerArgs, isRecord, saidWith, ArgsFor}
+use Rattle.kinds.specs.Kinds.{isCommand}
 use Rattle.reader.proofs.Whole.{whole-got}
 use Rattle.reader.proofs.Records.{FromRest, FromKind, call-given}
 

@@ -11,17 +11,20 @@ use Rattle.packer.specs.declared.Part.{Part}
 use Rattle.packer.specs.declared.PartRead.{PartRead}
 use Rattle.packer.specs.declared.PartRead.the-variants as parts
 use Rattle.fields.specs.Fields.{Field, int, str, blob, Value, bytes, Reading, got, runsOut, refused, push, andThen, readField, readFields}
-use Rattle.item.specs.Extensions.{Payload, shaped, whole, unknown, payloadAt, find}
-use Rattle.item.specs.Records.{Content, content, asContent, upTo, ofPayload, afterData, afterId, readEx, readRest}
+use Rattle.extensions.specs.Extensions.{Payload, shaped, whole, payloadAt, find}
+use Rattle.extensions.specs.declared.Extension.{Extension}
+use Rattle.extensions.specs.declared.Found.{Found}
+use Rattle.extensions.specs.declared.Found.the-variants.{Known, Unknown}
+use Rattle.item.specs.Records.{Content, content, asContent, upTo, ofPayload, ofFound, afterData, afterId, readEx, readRest}
 use Rattle.item.specs.Contents.{ownPayload, ownFields, beside, withBeside, noArgs}
-use Rattle.item.specs.declared.Kind.{Kind}
-use Rattle.item.specs.declared.Kind.the-variants as kinds
+use Rattle.kinds.specs.declared.Kind.{Kind}
+use Rattle.kinds.specs.declared.Kind.the-variants as kinds
 use Rattle.item.specs.declared.Tag.{Tag}
 use Rattle.item.specs.declared.Tag.the-variants.{Plain, Named, Other}
-use Rattle.records.specs.Views.{ownContent}
+use Rattle.item.specs.Contents.{ownContent}
 use Rattle.step.specs.Kinds.{isOther}
 use Rattle.step.proofs.Others.{no-other, by-other}
-use Rattle.reader.specs.Answers.{isCommand}
+use Rattle.kinds.specs.Kinds.{isCommand}
 
 -- ---- as many values as fields
 
@@ -68,15 +71,18 @@ whole-up end runsOut h = tt
 whole-up end (refused r) h = tt
 
 module _ (w : List ℕ) where
-  whole-payload : (id p : Part) (k : ℕ) (y : Payload) (next : ℕ) → payloadAt k ≡ y → Whole (ofPayload w id p k y next)
-  whole-payload id p k (shaped fs) next e =
+  whole-payload : (p : Part) (k : Extension) (y : Payload) (next : ℕ) → payloadAt k ≡ y → Whole (ofPayload w p k y next)
+  whole-payload p k (shaped fs) next e =
       let x = readFields fs (take next w) (p .at) in
       whole-up next (asContent (Named k) x) (whole-as (Named k) x refl (rw e (counted fs (take next w) (p .at))))
-  whole-payload id p k whole next e = whole-values (Named k) (bytes p ∷ []) refl (rw e)
-  whole-payload id p k unknown next e = refl
+  whole-payload p k whole next e = whole-values (Named k) (bytes p ∷ []) refl (rw e)
+
+  whole-found : (id p : Part) (f : Found) (next : ℕ) → Whole (ofFound w id p f next)
+  whole-found id p (Known k) next = whole-payload p k (payloadAt k) next refl
+  whole-found id p Unknown next = refl
 
   whole-data : (id : Part) (x : PartRead) → Whole (afterData w id x)
-  whole-data id (parts.Got p next) = whole-payload id p (find (shown w id)) (payloadAt (find (shown w id))) next refl
+  whole-data id (parts.Got p next) = whole-found id p (find (shown w id)) next
   whole-data id parts.RunsOut = tt
 
   whole-id : (x : PartRead) → Whole (afterId w x)

@@ -3,14 +3,13 @@ use Prim.Native.Nat.{ℕ}
 use mathlib.Core.Path.{_≡_}
 use mathlib.Core.Bool.{Bool, true, false, cond}
 use mathlib.Core.List.{List, []}
-use lib.ListN.{take}
 use lib.IntN.{ℤ, pos, negsuc}
-use Rattle.fields.specs.Views.{zeros, argsWith}
+use Rattle.fields.specs.Views.{zeros}
 use Rattle.fields.specs.declared.Args.{Args}
 use Rattle.item.specs.Said.{Said, gives, more, finish, refusing}
-use Rattle.item.specs.Contents.{itemOf, withBeside, noArgs}
-use Rattle.item.specs.declared.Kind.{Kind}
-use Rattle.item.specs.declared.Kind.the-variants as kinds
+use Rattle.kinds.specs.Kinds.{kindRow}
+use Rattle.item.specs.Contents.{itemOf, withBeside, argsIn, noArgs}
+use Rattle.kinds.specs.declared.Kind.{Kind}
 use Rattle.item.specs.declared.Tag.{Tag}
 use Rattle.item.specs.declared.Tag.the-variants.{Plain, Named, Other}
 use Rattle.state.specs.State.{Memory, present, xOf, yOf, holds, tenOf, readerWith}
@@ -47,18 +46,7 @@ saidWith (answers.Refused r) xs = refusing r
 
 -- arguments stand beside a command alone, as many parts as the count says, the others empty; elsewhere there are none
 abbrev pub kindArgs : Kind → Args → Args
-kindArgs (kinds.PlayerDiff c) xs = noArgs
-kindArgs kinds.Finish xs = noArgs
-kindArgs kinds.TickSkip xs = noArgs
-kindArgs (kinds.PlayerNew c) xs = noArgs
-kindArgs (kinds.PlayerOld c) xs = noArgs
-kindArgs kinds.InputDiff xs = noArgs
-kindArgs kinds.InputNew xs = noArgs
-kindArgs kinds.Message xs = noArgs
-kindArgs kinds.Join xs = noArgs
-kindArgs kinds.Drop xs = noArgs
-kindArgs kinds.ConsoleCommand xs = argsWith (take (xs .count) (xs .parts))
-kindArgs kinds.Ex xs = noArgs
+kindArgs k xs = argsIn (kindRow k .beside) xs
 
 abbrev pub tagArgs : Tag → Args → Args
 tagArgs (Plain k) xs = kindArgs k xs
@@ -96,8 +84,8 @@ isRecord (answers.Finish used) = false
 isRecord (answers.Refused r) = false
 
 abbrev pub readAnswer : Answer → Scalars → Entries → List ℤ → List ℤ → Args → ReadAnswer
-readAnswer a s e ten former xs =
-    record { answer = a; reader = readerWith s e; input = ten; former = former; args = xs }
+readAnswer a s e zs former xs =
+    record { answer = a; reader = readerWith s e; input = zs; former = former; args = xs }
 
 -- what a call says, the reader that it leaves, the ten numbers and the former ten, and no arguments but a command's
 pub record Tells (t : Step) (r : ReadAnswer) : Type 0 where
@@ -112,20 +100,6 @@ ReadIs reader w last r = Tells (readCall reader w last) r
 
 -- ---- the arguments, which are read again
 
-abbrev pub isCommand : Kind → Bool
-isCommand (kinds.PlayerDiff c) = false
-isCommand kinds.Finish = false
-isCommand kinds.TickSkip = false
-isCommand (kinds.PlayerNew c) = false
-isCommand (kinds.PlayerOld c) = false
-isCommand kinds.InputDiff = false
-isCommand kinds.InputNew = false
-isCommand kinds.Message = false
-isCommand kinds.Join = false
-isCommand kinds.Drop = false
-isCommand kinds.ConsoleCommand = true
-isCommand kinds.Ex = false
-
 -- where a call's answer is a without arguments, they are those that it lacks
 pub record ArgsFor (a : Answer) (s : Scalars) (w : List ℕ) (xs : Args) : Type 0 where
   pub said :
@@ -139,7 +113,7 @@ posOf e (pos c) = cond (present e c) (places.At (xOf e c) (yOf e c)) places.NoPo
 posOf e (negsuc c) = places.NoPos
 
 abbrev pub inputAnswer : Bool → List ℤ → InputOf
-inputAnswer there ten = record { there = there; input = ten }
+inputAnswer there zs = record { there = there; input = zs }
 
 -- ten zeros where there is none
 abbrev pub inputFor : Entries → ℤ → InputOf

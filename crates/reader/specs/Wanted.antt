@@ -2,9 +2,9 @@
 use mathlib.Core.Path.{_≡_}
 use lib.IntN.{ℤ}
 use Rattle.refusal.specs.Said.{Said, gives, more, finish, refuses, refusing}
-use Rattle.item.specs.Magic.{versionOf}
-use Rattle.item.specs.declared.Version.{Version}
-use Rattle.item.specs.declared.Version.the-variants.{V1}
+use Rattle.kinds.specs.Magic.{versionOf}
+use Rattle.kinds.specs.declared.Version.{Version}
+use Rattle.kinds.specs.declared.Version.the-variants.{V1}
 use Rattle.state.specs.State.{emptyReader}
 use Rattle.state.specs.declared.Reader.{Reader}
 use Rattle.reader.specs.declared.WantedAnswer.{WantedAnswer}

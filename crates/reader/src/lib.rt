@@ -7,24 +7,14 @@ ghost use Rattle.item.specs.Said.{refusing};
 ghost use Rattle.item.specs.Contents.{noArgs};
 ghost use Rattle.state.specs.State.{entriesWith, goodReader};
 ghost use Rattle.state.specs.Reading.{step, openCall, memoryOf};
-ghost use Rattle.reader.specs.Answers.{
-  recordEvent,
-  isRecord,
-  isCommand,
-  ArgsFor,
-  readAnswer,
-  Tells,
-  ReadIs,
-  posOf,
-  inputAnswer,
-  inputFor,
-};
+ghost use Rattle.reader.specs.Answers.{recordEvent, isRecord, ArgsFor, readAnswer, Tells, ReadIs, posOf, inputAnswer, inputFor};
+ghost use Rattle.kinds.specs.Kinds.{isCommand};
 ghost use Rattle.reader.specs.Wanted.{WantedIs};
 use fields::Args;
-use item::Kind;
-use item::KindRead;
-use item::Version;
-use item::VersionOf;
+use kinds::Kind;
+use kinds::KindRead;
+use kinds::Version;
+use kinds::VersionOf;
 use packer::Part;
 use refusal::Refusal;
 use state::Answer;
@@ -71,7 +61,7 @@ pub struct InputOf {
 pub fn wanted(version: i32) -> WantedReader
     ensures { λ r. ⌜ WantedIs version r ⌝ }
 {
-    let found = item::version_of(version);
+    let found = kinds::version_of(version);
     match found {
         VersionOf::Is(v) => WantedReader {
             answer: WantedAnswer::Is,

@@ -1,7 +1,7 @@
 // Reads bodies with the reader by value and prints their lines, in the form of the replay program. Standard input holds inputs one behind
 // the other, each after its length in two bytes, the low one first: a version byte, then a body.
-use item::Version;
-use item::VersionOf;
+use kinds::Version;
+use kinds::VersionOf;
 use libc::STDOUT_FILENO;
 use lines::Ending;
 use packer::PartRead;
@@ -68,7 +68,7 @@ fn run_case(input: &[u8]) {
         print_last(Ending::Refused(Refusal::UnknownVersion));
         return;
     }
-    match item::version_of(number(input[0])) {
+    match kinds::version_of(number(input[0])) {
         VersionOf::Is(version) => read_body(version, &input[1..]),
         VersionOf::Refused(r) => print_last(Ending::Refused(r)),
     }

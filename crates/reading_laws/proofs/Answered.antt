@@ -6,8 +6,8 @@ use Rattle.fields.specs.Views.{argsWith}
 use Rattle.fields.specs.declared.Args.{Args}
 use Rattle.item.specs.Said.{Said, gives, more, finish, refuses}
 use Rattle.item.specs.Contents.{itemOf, besideKind, beside}
-use Rattle.item.specs.declared.Kind.{Kind}
-use Rattle.item.specs.declared.Kind.the-variants as kinds
+use Rattle.kinds.specs.declared.Kind.{Kind}
+use Rattle.kinds.specs.declared.Kind.the-variants as kinds
 use Rattle.item.specs.declared.Tag.{Tag}
 use Rattle.item.specs.declared.Tag.the-variants.{Plain, Named, Other}
 use Rattle.views.proofs.Refusals.{refusalBy, by-number}

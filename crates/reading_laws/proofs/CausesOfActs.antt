@@ -20,8 +20,8 @@ use Rattle.fields.specs.Fields.{num, got, dtField, andThen, readFields}
 use Rattle.fields.specs.Views.{numbers}
 use Rattle.item.specs.Said.{Said, gives, more, finish, refuses, refusing}
 use Rattle.item.specs.Records.{Content, content, asContent, readRest}
-use Rattle.item.specs.declared.Kind.{Kind}
-use Rattle.item.specs.declared.Kind.the-variants as kinds
+use Rattle.kinds.specs.declared.Kind.{Kind}
+use Rattle.kinds.specs.declared.Kind.the-variants as kinds
 use Rattle.item.specs.declared.Tag.the-variants.{Plain}
 use Rattle.views.proofs.Refusals.{same-refusal}
 use Rattle.state.specs.State.{Memory, readerWith, goodScalars}

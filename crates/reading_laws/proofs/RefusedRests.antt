@@ -48,10 +48,14 @@ use Rattle.fields.specs.Fields.{
 }
 use Rattle.fields.specs.Views.{tenFields}
 use Rattle.fields.proofs.Appended.{prepend, joined, fields-joined}
-use Rattle.item.specs.Extensions.{Payload, shaped, whole, unknown, Extension, extensions, noExtension, find, payloadAt}
-use Rattle.item.specs.Records.{Content, asContent, upTo, ofPayload, afterData, afterId, readEx, readRest}
-use Rattle.item.specs.declared.Kind.{Kind}
-use Rattle.item.specs.declared.Kind.the-variants as kinds
+use Rattle.extensions.specs.Extensions.{Payload, shaped, whole, extensionRow, payloadAt, all, find}
+use Rattle.extensions.specs.declared.Extension.{Extension}
+use Rattle.extensions.specs.declared.Found.{Found}
+use Rattle.extensions.specs.declared.Found.the-variants.{Known, Unknown}
+use Rattle.extensions.proofs.Each.{tested}
+use Rattle.item.specs.Records.{Content, asContent, upTo, ofPayload, ofFound, afterData, afterId, readEx, readRest}
+use Rattle.kinds.specs.declared.Kind.{Kind}
+use Rattle.kinds.specs.declared.Kind.the-variants as kinds
 use Rattle.item.specs.declared.Tag.{Tag}
 use Rattle.item.specs.declared.Tag.the-variants.{Plain, Named}
 use Rattle.reading_laws.specs.Causes.{Strings, none, one}
@@ -130,31 +134,23 @@ module _ {C : Type 0} {r : Refusal} where
 abbrev calmLoad : Payload → Bool
 calmLoad (shaped fs) = allCalm fs
 calmLoad whole = true
-calmLoad unknown = true
 
-abbrev calmRows : List Extension → Bool
-calmRows [] = true
-calmRows (x ∷ l) = calmLoad (x .payload) && calmRows l
-
-row-calm : (l : List Extension) (k : ℕ) → calmRows l ≡ true → calmLoad (getD l k noExtension .payload) ≡ true
-row-calm [] k c = refl
-row-calm (x ∷ l) zero c = left-of (calmLoad (x .payload)) (calmRows l) c
-row-calm (x ∷ l) (suc k) c = row-calm l k (right-of (calmLoad (x .payload)) (calmRows l) c)
-
-load-calm : (k : ℕ) → calmLoad (payloadAt k) ≡ true
-unfolding payloadAt extensions
-load-calm k = row-calm extensions k refl
+load-calm : (k : Extension) → calmLoad (payloadAt k) ≡ true
+unfolding payloadAt extensionRow all
+load-calm = tested (λ k. calmLoad (payloadAt k)) refl
 
 module _ {C : Type 0} {r : Refusal} (w : List ℕ) where
-  payload-calm : (id p : Part) (k : ℕ) (y : Payload) (n : ℕ) → calmLoad y ≡ true → ofPayload w id p k y n ≡ refused r → C
-  payload-calm id p k (shaped fs) n c e =
+  payload-calm : (p : Part) (k : Extension) (y : Payload) (n : ℕ) → calmLoad y ≡ true → ofPayload w p k y n ≡ refused r → C
+  payload-calm p k (shaped fs) n c e =
       fields-calm fs (take n w) (p .at) c (as-calm (Named k) (readFields fs (take n w) (p .at)) (upto-calm n _ e))
-  payload-calm id p k whole n c e = not-got e
-  payload-calm id p k unknown n c e = not-got e
+  payload-calm p k whole n c e = not-got e
+
+  found-calm : (id p : Part) (f : Found) (n : ℕ) → ofFound w id p f n ≡ refused r → C
+  found-calm id p (Known k) n e = payload-calm p k (payloadAt k) n (load-calm k) e
+  found-calm id p Unknown n e = not-got e
 
   data-calm : (id : Part) (x : PartRead) → afterData w id x ≡ refused r → C
-  data-calm id (parts.Got p n) e =
-      payload-calm id p (find (shown w id)) (payloadAt (find (shown w id))) n (load-calm (find (shown w id))) e
+  data-calm id (parts.Got p n) e = found-calm id p (find (shown w id)) n e
   data-calm id parts.RunsOut e = not-out e
 
   id-calm : (x : PartRead) → afterId w x ≡ refused r → C

@@ -12,11 +12,11 @@ use Rattle.varint.specs.declared.Remark.{Remark}
 use Rattle.varint.specs.declared.IntRead.{IntRead}
 use Rattle.varint.specs.declared.IntRead.the-variants as ints
 use Rattle.fields.specs.Fields.{Reading, got, runsOut, refused}
-use Rattle.item.specs.Kinds.{withClient, extension, kindOf, afterNumber, readKind}
-use Rattle.item.proofs.Arms.{low}
-use Rattle.item.specs.declared.Version.{Version}
-use Rattle.item.specs.declared.Version.the-variants.{V1, V2}
-use Rattle.item.specs.declared.Kind.{Kind}
+use Rattle.kinds.specs.Kinds.{withClient, extension, kindOf, afterNumber, readKind}
+use Rattle.kinds.proofs.Arms.{low}
+use Rattle.kinds.specs.declared.Version.{Version}
+use Rattle.kinds.specs.declared.Version.the-variants.{V1, V2}
+use Rattle.kinds.specs.declared.Kind.{Kind}
 use Rattle.state.specs.Reading.{nextKind}
 use Rattle.state.specs.declared.Pending.{Pending}
 use Rattle.state.specs.declared.Pending.the-variants.{Is, NoKind}

@@ -15,11 +15,11 @@ use Rattle.packer.specs.declared.Part.{Part}
 use Rattle.packer.specs.declared.PartRead.the-variants as parts
 use Rattle.fields.specs.Fields.{int, mask, str, Value, got, readFields}
 use Rattle.item.specs.Records.{Content}
-use Rattle.item.specs.declared.Version.{Version}
-use Rattle.item.specs.declared.Version.the-variants.{V1}
-use Rattle.item.specs.declared.Kind.{Kind}
-use Rattle.item.specs.declared.Kind.the-variants as kinds
-use Rattle.item.specs.declared.Cid.the-variants.{Of}
+use Rattle.kinds.specs.declared.Version.{Version}
+use Rattle.kinds.specs.declared.Version.the-variants.{V1}
+use Rattle.kinds.specs.declared.Kind.{Kind}
+use Rattle.kinds.specs.declared.Kind.the-variants as kinds
+use Rattle.kinds.specs.declared.Cid.the-variants.{Of}
 use Rattle.state.specs.State.{present, holds, withPlayer, readerWith, goodReader}
 use Rattle.state.specs.Reading.{closing, raising, naming, atOrBelow}
 use Rattle.state.specs.Acts.{HadKind, Had, firstOf, secondOf, PlayerKind, InputKind, MayCome, BytesRunOut}

@@ -10,7 +10,7 @@ use Rattle.item.specs.Contents.{recordOf}
 use Rattle.item.specs.declared.Record.{Record}
 use Rattle.views.proofs.Refusals.{same-refusal}
 use Rattle.views.proofs.Records.{records-shown}
-use Rattle.records.specs.Views.{saidBy, tidySaid}
+use Rattle.records.specs.Calls.{saidBy, tidySaid}
 use Rattle.records.specs.declared.CallAnswer.{CallAnswer}
 use Rattle.records.specs.declared.CallAnswer.the-variants as calls
 use Rattle.records.specs.declared.RecordCall.{RecordCall}

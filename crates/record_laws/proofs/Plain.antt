@@ -36,8 +36,12 @@ use Rattle.fields.specs.Fields.{
   readFields,
 }
 use Rattle.fields.proofs.Answers.{not-refused, and-split}
-use Rattle.item.specs.Extensions.{Payload, shaped, whole, unknown, Extension, noExtension, extensions, payloadAt, find}
-use Rattle.item.specs.Records.{Content, asContent, upTo, ofPayload, afterData, afterId, readEx}
+use Rattle.extensions.specs.Extensions.{Payload, shaped, whole, extensionRow, payloadAt, all, find}
+use Rattle.extensions.specs.declared.Extension.{Extension}
+use Rattle.extensions.specs.declared.Found.{Found}
+use Rattle.extensions.specs.declared.Found.the-variants.{Known, Unknown}
+use Rattle.extensions.proofs.Each.{tested}
+use Rattle.item.specs.Records.{Content, asContent, upTo, ofPayload, ofFound, afterData, afterId, readEx}
 use Rattle.item.specs.declared.Tag.{Tag}
 use Rattle.item.specs.declared.Tag.the-variants.{Named}
 
@@ -116,33 +120,24 @@ module _ {C : Type 0} (s : List ℕ) where
 abbrev plainLoad : Payload → Bool
 plainLoad (shaped fs) = allPlain fs
 plainLoad whole = true
-plainLoad unknown = true
 
-abbrev allLoads : List Extension → Bool
-allLoads [] = true
-allLoads (e ∷ es) = plainLoad (e .payload) && allLoads es
-
-rows-plain : (es : List Extension) (k : ℕ) → allLoads es ≡ true → plainLoad (getD es k noExtension .payload) ≡ true
-rows-plain [] k a = refl
-rows-plain (e ∷ es) zero a = and-split (plainLoad (e .payload)) (allLoads es) a .0
-rows-plain (e ∷ es) (suc k) a = rows-plain es k (and-split (plainLoad (e .payload)) (allLoads es) a .1)
-
-load-plain : (k : ℕ) → plainLoad (payloadAt k) ≡ true
-unfolding payloadAt extensions
-load-plain k = rows-plain extensions k refl
+load-plain : (k : Extension) → plainLoad (payloadAt k) ≡ true
+unfolding payloadAt extensionRow all
+load-plain = tested (λ k. plainLoad (payloadAt k)) refl
 
 module _ {C : Type 0} (s : List ℕ) (r : Refusal) where
-  load-never : (id p : Part) (k : ℕ) (l : Payload) (next : ℕ) → plainLoad l ≡ true → ofPayload s id p k l next ≡ refused r → C
-  load-never id p k (shaped fs) next a e =
+  load-never : (p : Part) (k : Extension) (l : Payload) (next : ℕ) → plainLoad l ≡ true → ofPayload s p k l next ≡ refused r → C
+  load-never p k (shaped fs) next a e =
       let x = readFields fs (take next s) (p .at) in
       fields-never (take next s) fs a (p .at) r (as-refused (Named k) x r (up-refused next (asContent (Named k) x) r e))
-  load-never id p k whole next a e = not-refused (sym e)
-  load-never id p k unknown next a e = not-refused (sym e)
+  load-never p k whole next a e = not-refused (sym e)
+
+  found-never : (id p : Part) (f : Found) (next : ℕ) → ofFound s id p f next ≡ refused r → C
+  found-never id p (Known k) next e = load-never p k (payloadAt k) next (load-plain k) e
+  found-never id p Unknown next e = not-refused (sym e)
 
   data-never : (id : Part) (x : PartRead) → afterData s id x ≡ refused r → C
-  data-never id (parts.Got p next) e =
-      let k = find (shown s id) in
-      load-never id p k (payloadAt k) next (load-plain k) e
+  data-never id (parts.Got p next) e = found-never id p (find (shown s id)) next e
   data-never id parts.RunsOut e = out-refused e
 
   id-never : (x : PartRead) → afterId s x ≡ refused r → C

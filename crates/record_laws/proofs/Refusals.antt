@@ -46,12 +46,12 @@ use Rattle.fields.specs.Fields.{
 use Rattle.fields.specs.Views.{inputFields}
 use Rattle.fields.proofs.Answers.{not-refused}
 use Rattle.fields.proofs.Appended.{prepend, joined, fields-joined}
-use Rattle.item.specs.Kinds.{withClient, kindOf, afterNumber, readKind}
+use Rattle.kinds.specs.Kinds.{withClient, kindOf, afterNumber, readKind}
 use Rattle.item.specs.Records.{Content, restOf, asContent, readAs, readRest, afterKind, readRecord, recordSaid, recordCall}
-use Rattle.item.specs.declared.Version.{Version}
-use Rattle.item.specs.declared.Version.the-variants.{V1, V2}
-use Rattle.item.specs.declared.Kind.{Kind}
-use Rattle.item.specs.declared.Kind.the-variants as kinds
+use Rattle.kinds.specs.declared.Version.{Version}
+use Rattle.kinds.specs.declared.Version.the-variants.{V1, V2}
+use Rattle.kinds.specs.declared.Kind.{Kind}
+use Rattle.kinds.specs.declared.Kind.the-variants as kinds
 use Rattle.item.specs.declared.Tag.the-variants.{Plain}
 use Rattle.record_laws.specs.Laws.{NoKind, below, extension-in-1, Command, Cause, unexpected-end, unknown-type, negative-dt, negative-num-args, num-args-too-large, RecordRefuses}
 use Rattle.record_laws.proofs.Plain.{out-refused, as-refused, allPlain, fields-never, ex-never}

@@ -10,9 +10,9 @@ use Rattle.refusal.specs.Said.{gives}
 use Rattle.varint.specs.Written.{written, writtenIf, wroteSaid, writing}
 use Rattle.item.specs.Records.{meaning, readRecord, recordCall}
 use Rattle.item.specs.Contents.{recordOf}
-use Rattle.item.specs.declared.Version.{Version}
+use Rattle.kinds.specs.declared.Version.{Version}
 use Rattle.item.specs.declared.Record.{Record}
-use Rattle.records.specs.Views.{saidBy, tidySaid, Called}
+use Rattle.records.specs.Calls.{saidBy, tidySaid, Called}
 use Rattle.records.specs.declared.CallAnswer.{CallAnswer}
 use Rattle.records.specs.declared.CallAnswer.the-variants as calls
 use Rattle.records.specs.declared.RecordCall.{RecordCall}

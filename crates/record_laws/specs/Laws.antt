@@ -17,14 +17,14 @@ use Rattle.packer.specs.Parts.{readString}
 use Rattle.packer.specs.declared.Part.{Part}
 use Rattle.packer.specs.declared.PartRead.the-variants as parts
 use Rattle.fields.specs.Fields.{int, mask, str, Value, got, runsOut, argsFrom, readFields}
-use Rattle.item.specs.Kinds.{readKind}
+use Rattle.kinds.specs.Kinds.{readKind}
 use Rattle.item.specs.Records.{meaning, readRecord, recordCall, recordRemarks}
 use Rattle.item.specs.Contents.{recordOf}
-use Rattle.item.specs.declared.Version.{Version}
-use Rattle.item.specs.declared.Version.the-variants.{V1}
-use Rattle.item.specs.declared.Kind.the-variants as kinds
+use Rattle.kinds.specs.declared.Version.{Version}
+use Rattle.kinds.specs.declared.Version.the-variants.{V1}
+use Rattle.kinds.specs.declared.Kind.the-variants as kinds
 use Rattle.item.specs.declared.Record.{Record}
-use Rattle.records.specs.Views.{Called}
+use Rattle.records.specs.Calls.{Called}
 use Rattle.records.specs.declared.CallAnswer.the-variants.{Got}
 use Rattle.records.specs.declared.RecordCall.{RecordCall}
 use Rattle.written.specs.Unwritable.{Writes}

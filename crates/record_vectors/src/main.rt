@@ -3,9 +3,10 @@
 // many bytes. Each is called with the flag off and on: where the bytes run out the second call is to be refused 3, elsewhere to say the
 // same.
 ghost use Prim.Native.Nat.{_<_};
-use item::Kind;
+use extensions::Extension;
 use item::Tag;
-use item::Version;
+use kinds::Kind;
+use kinds::Version;
 use libc::STDOUT_FILENO;
 use packer::Part;
 use packer::PartRead;
@@ -68,17 +69,39 @@ fn kind_row(kind: Kind) -> usize
     }
 }
 
+fn extension_row(which: Extension) -> usize
+    ensures { λ r. ⌜ r < 32 ⌝ }
+{
+    match which {
+        Extension::Antibot => 0,
+        Extension::AuthInit => 1,
+        Extension::AuthLogin => 2,
+        Extension::AuthLogout => 3,
+        Extension::Ddnetver => 4,
+        Extension::DdnetverOld => 5,
+        Extension::Joinver6 => 6,
+        Extension::Joinver7 => 7,
+        Extension::PlayerFinish => 8,
+        Extension::PlayerName => 9,
+        Extension::PlayerReady => 10,
+        Extension::PlayerRejoin => 11,
+        Extension::PlayerSwap => 12,
+        Extension::PlayerTeam => 13,
+        Extension::TeamFinish => 14,
+        Extension::TeamLoadFailure => 15,
+        Extension::TeamLoadSuccess => 16,
+        Extension::TeamPractice => 17,
+        Extension::TeamSaveFailure => 18,
+        Extension::TeamSaveSuccess => 19,
+    }
+}
+
 fn row_of(tag: Tag) -> usize
     ensures { λ r. ⌜ r < 32 ⌝ }
 {
     match tag {
         Tag::Plain(kind) => kind_row(kind),
-        Tag::Named(k) => {
-            if k < 20 {
-                return k;
-            }
-            31
-        }
+        Tag::Named(which) => extension_row(which),
         Tag::Other => 31,
     }
 }

@@ -10,7 +10,8 @@ use borrow.Author.Tests.{leb-true, leb-false}
 use Rattle.num.proofs.Cases.{by-bool}
 use Rattle.varint.specs.Written.{laterBytes, canonical}
 use Rattle.packer.specs.Texts.{dataBytes}
-use Rattle.item.specs.Extensions.{idAt}
+use Rattle.extensions.specs.Extensions.{idAt}
+use Rattle.extensions.specs.declared.Extension.{Extension}
 use Rattle.ids.proofs.Table.{id-length}
 use Rattle.written.specs.Written.{exBytes}
 use Rattle.plans.specs.Plans.{leftAfter}
@@ -33,14 +34,14 @@ one-byte : length (canonical (negsuc 10)) ≡ 1
 unfolding canonical laterBytes
 one-byte = refl
 
-pub framed-length : (k : ℕ) → k < 20 → (load : List ℕ)
+pub framed-length : (k : Extension) (load : List ℕ)
     → length (exBytes (idAt k) load) ≡ 17 + length (canonical (pos (length load))) + length load
-framed-length k h load =
+framed-length k load =
     let c = canonical (pos (length load)) in
     omega (
       arith,
       one-byte,
-      id-length k h,
+      id-length k,
       length-append (canonical (negsuc 10)) (idAt k ++ dataBytes load),
       length-append (idAt k) (dataBytes load),
       length-append c load,

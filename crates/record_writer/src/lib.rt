@@ -8,8 +8,8 @@ ghost use Rattle.varint.specs.Written.{written, wrote, writtenIf, wroteIf};
 ghost use Rattle.packer.specs.Parts.{shown};
 ghost use Rattle.packer.specs.Texts.{isData};
 ghost use Rattle.fields.specs.Writing.{stringsBytes};
-ghost use Rattle.item.specs.Extensions.{idAt};
-ghost use Rattle.item.specs.Contents.{fromFields};
+ghost use Rattle.extensions.specs.Extensions.{idAt};
+ghost use Rattle.item.specs.Taken.{fromFields};
 ghost use Rattle.item.specs.declared.Tag.the-variants.{Named};
 ghost use Rattle.written.specs.Written.{exBytes};
 ghost use Rattle.written.specs.Unwritable.{Writes};
@@ -30,11 +30,12 @@ ghost use Rattle.plans.specs.Plans.{
 };
 ghost use Rattle.outlines.specs.Outlines.{outlineOk, outlineBytes, contentOk, contentBytes};
 ghost use Rattle.record_writer.specs.Puts.{pastOf, HasRoom, Ready, Puts};
+use extensions::Extension;
 use fields::Args;
-use item::Kind;
 use item::Record;
 use item::Tag;
-use item::Version;
+use kinds::Kind;
+use kinds::Version;
 use outlines::Outline;
 use packer::Part;
 use plans::Left;
@@ -164,16 +165,14 @@ fn put_plan(
     put_tail(tail, s, ten, args, out, d)
 }
 
-// The identifier of extension k.
-fn put_id(k: usize, out: &mut [u8], at: usize) -> usize
-    requires { ⌜ k < 20 ⌝ }
+// The identifier of an extension.
+fn put_id(k: Extension, out: &mut [u8], at: usize) -> usize
     requires { ⌜ HasRoom (now out) at (idAt k) ⌝ }
     ensures { λ r. ⌜ Puts (now (out .entry)) at (idAt k) r (now (out .exit)) ⌝ }
 {
-    let base = k * 16;
     let mut i = 0;
     while i < 16 {
-        out[at + i] = ids::table_byte(base + i);
+        out[at + i] = ids::id_byte(k, i);
         i += 1;
     }
     at + 16
@@ -256,7 +255,7 @@ fn write_outline(
 
 // Extension k, whose data has this size: its number, its identifier, the size, the data.
 fn write_framed(
-    k: usize,
+    k: Extension,
     size: usize,
     plan: Plan,
     s: &[u8],
@@ -266,7 +265,6 @@ fn write_framed(
     out: &mut [u8],
     at: usize,
 ) -> Wrote
-    requires { ⌜ k < 20 ⌝ }
     requires { ⌜ size ≤ 2147483647 ⌝ }
     requires { ⌜ size ≡ length (planBytes plan (now s) f ten args) ⌝ }
     requires { ⌜ planOk plan (now s) f args ≡ true ⌝ }
@@ -288,7 +286,7 @@ fn write_framed(
 
 // Extension k in version 2. Its data may have 2147483647 bytes.
 fn write_payload(
-    k: usize,
+    k: Extension,
     plan: Plan,
     s: &[u8],
     f: Fields,
@@ -297,7 +295,6 @@ fn write_payload(
     out: &mut [u8],
     at: usize,
 ) -> Wrote
-    requires { ⌜ k < 20 ⌝ }
     ensures answer { λ r. ⌜ r ≡ wroteIf (planOk plan (now (s .entry)) f args && isData (planBytes plan (now (s .entry)) f ten args)) (now (out .entry)) at (exBytes (idAt k) (planBytes plan (now (s .entry)) f ten args)) ⌝ }
     ensures target { λ r. ⌜ now (out .exit) ≡ writtenIf (planOk plan (now (s .entry)) f args && isData (planBytes plan (now (s .entry)) f ten args)) (now (out .entry)) at (exBytes (idAt k) (planBytes plan (now (s .entry)) f ten args)) ⌝ }
 {
@@ -313,7 +310,7 @@ fn write_payload(
 
 fn write_named(
     version: Version,
-    k: usize,
+    k: Extension,
     s: &[u8],
     f: Fields,
     ten: [i32; 10],
@@ -321,11 +318,10 @@ fn write_named(
     out: &mut [u8],
     at: usize,
 ) -> Wrote
-    requires { ⌜ k < 20 ⌝ }
     ensures answer { λ r. ⌜ r ≡ wroteIf (contentOk version (now (s .entry)) (fromFields (Named k) f) ten args) (now (out .entry)) at (contentBytes (now (s .entry)) (fromFields (Named k) f) ten args) ⌝ }
     ensures target { λ r. ⌜ now (out .exit) ≡ writtenIf (contentOk version (now (s .entry)) (fromFields (Named k) f) ten args) (now (out .entry)) at (contentBytes (now (s .entry)) (fromFields (Named k) f) ten args) ⌝ }
 {
-    let plan = outlines::payload_plan(layouts::payload_of(k));
+    let plan = outlines::payload_plan(extensions::payload_of(k));
     match version {
         Version::V1 => Wrote::Refused(Refusal::Unwritable),
         Version::V2 => write_payload(k, plan, s, f, ten, args, out, at),

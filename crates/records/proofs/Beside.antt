@@ -12,17 +12,21 @@ use Rattle.fields.specs.Fields.{dt, Value, Reading, got, runsOut, refused, read
 use Rattle.fields.specs.Views.{zeros}
 use Rattle.shapes.specs.Shapes.{fieldsIn}
 use Rattle.shapes.specs.declared.Shape.{Shape}
-use Rattle.item.specs.Extensions.{Payload, shaped, whole, unknown, payloadAt, find}
-use Rattle.item.specs.Records.{Content, content, asContent, upTo, ofPayload, afterData, afterId, readEx, readRest}
+use Rattle.extensions.specs.Extensions.{Payload, shaped, whole, payloadAt, find}
+use Rattle.extensions.specs.declared.Extension.{Extension}
+use Rattle.extensions.specs.declared.Found.{Found}
+use Rattle.extensions.specs.declared.Found.the-variants.{Known, Unknown}
+use Rattle.item.specs.Records.{Content, content, asContent, upTo, ofPayload, ofFound, afterData, afterId, readEx, readRest}
 use Rattle.item.specs.Contents.{itemOf, ownFields, beside, noArgs, recordWith, recordOf, tidyTag}
-use Rattle.item.specs.declared.Kind.{Kind}
-use Rattle.item.specs.declared.Kind.the-variants as kinds
+use Rattle.kinds.specs.declared.Kind.{Kind}
+use Rattle.kinds.specs.declared.Kind.the-variants as kinds
 use Rattle.item.specs.declared.Tag.{Tag}
 use Rattle.item.specs.declared.Tag.the-variants.{Plain, Named}
 use Rattle.item.specs.declared.Item.{Item}
 use Rattle.item.specs.declared.Record.{Record}
 use Rattle.item.proofs.Lengths.{lengths}
-use Rattle.records.specs.Views.{ownContent, own, itemIs, restCode, wholeOf, RestRead}
+use Rattle.records.specs.Views.{own, itemIs, restCode, wholeOf, RestRead}
+use Rattle.item.specs.Contents.{ownContent}
 use Rattle.records.specs.declared.ItemRead.{ItemRead}
 use Rattle.records.specs.declared.ItemRead.the-variants as items
 use Rattle.records.specs.declared.Rest.{Rest}
@@ -47,7 +51,7 @@ lone-as t h (refused r) = tt
 
 -- extensions
 
-lone-named : (k : ℕ) → Lone (Named k)
+lone-named : (k : Extension) → Lone (Named k)
 lone-named k = record { none = refl; tidy = λ r. refl }
 
 lone-up : (end : ℕ) (x : Reading (Content Part)) → AllLone x → AllLone (upTo end x)
@@ -55,15 +59,18 @@ lone-up end (got c next) h = h
 lone-up end runsOut h = tt
 lone-up end (refused r) h = tt
 
-lone-payload : (s : List ℕ) (id p : Part) (k : ℕ) (l : Payload) (next : ℕ) → AllLone (ofPayload s id p k l next)
-lone-payload s id p k (shaped fs) next =
+lone-payload : (s : List ℕ) (p : Part) (k : Extension) (l : Payload) (next : ℕ) → AllLone (ofPayload s p k l next)
+lone-payload s p k (shaped fs) next =
     let x = readFields fs (take next s) (p .at) in
     lone-up next (asContent (Named k) x) (lone-as (Named k) (lone-named k) x)
-lone-payload s id p k whole next = lone-named k
-lone-payload s id p k unknown next = record { none = refl; tidy = λ r. refl }
+lone-payload s p k whole next = lone-named k
+
+lone-found : (s : List ℕ) (id p : Part) (f : Found) (next : ℕ) → AllLone (ofFound s id p f next)
+lone-found s id p (Known k) next = lone-payload s p k (payloadAt k) next
+lone-found s id p Unknown next = record { none = refl; tidy = λ r. refl }
 
 lone-data : (s : List ℕ) (id : Part) (x : PartRead) → AllLone (afterData s id x)
-lone-data s id (parts.Got p next) = lone-payload s id p (find (shown s id)) (payloadAt (find (shown s id))) next
+lone-data s id (parts.Got p next) = lone-found s id p (find (shown s id)) next
 lone-data s id parts.RunsOut = tt
 
 lone-id : (s : List ℕ) (x : PartRead) → AllLone (afterId s x)

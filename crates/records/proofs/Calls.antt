@@ -5,11 +5,12 @@ use mathlib.Core.Bool.{Bool, true, false}
 use mathlib.Core.List.{List}
 use Rattle.fields.specs.Fields.{runsOut}
 use Rattle.item.specs.Records.{readRest, recordSaid, recordCall}
-use Rattle.item.specs.declared.Version.{Version}
-use Rattle.item.specs.declared.Kind.{Kind}
+use Rattle.kinds.specs.declared.Version.{Version}
+use Rattle.kinds.specs.declared.Kind.{Kind}
 use Rattle.item.specs.declared.Item.the-variants as records
 use Rattle.item.specs.declared.Record.{Record}
-use Rattle.records.specs.Views.{alone, answerIs, tidyAnswer, saidOf, saidBy, tidySaid, RestRead, RecordAt, Called}
+use Rattle.records.specs.Views.{alone, answerIs, tidyAnswer, saidOf, RestRead, RecordAt}
+use Rattle.records.specs.Calls.{saidBy, tidySaid, Called}
 use Rattle.records.specs.declared.RecordAnswer.{RecordAnswer}
 use Rattle.records.specs.declared.RecordAnswer.the-variants as answers
 use Rattle.records.specs.declared.RecordRead.{RecordRead}

@@ -34,7 +34,7 @@ use Rattle.fields.specs.declared.ArgsRead.{ArgsRead}
 use Rattle.fields.proofs.Appended.{joined, fields-joined}
 use Rattle.item.specs.Records.{Content, content, asContent, readRest}
 use Rattle.item.specs.Contents.{ownFields, recordWith}
-use Rattle.item.specs.declared.Kind.the-variants as kinds
+use Rattle.kinds.specs.declared.Kind.the-variants as kinds
 use Rattle.item.specs.declared.Item.the-variants as records
 use Rattle.item.specs.declared.Tag.the-variants.{Plain}
 use Rattle.records.specs.Views.{itemIs, own, headIs, commandRead, readIs, tidyAnswer, RestRead}

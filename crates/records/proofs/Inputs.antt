@@ -19,7 +19,8 @@ use Rattle.item.specs.Records.{content, asContent, readRest}
 use Rattle.item.specs.Contents.{recordWith, noArgs}
 use Rattle.item.specs.declared.Item.the-variants as records
 use Rattle.item.specs.declared.Tag.the-variants.{Plain}
-use Rattle.records.specs.Views.{inputKind, inputItem, recordRead, alone, readIs, tidyAnswer, RestRead}
+use Rattle.records.specs.Views.{inputItem, recordRead, alone, readIs, tidyAnswer, RestRead}
+use Rattle.kinds.specs.Kinds.{inputKind}
 use Rattle.records.specs.declared.RecordRead.{RecordRead}
 use Rattle.records.specs.declared.RecordAnswer.the-variants as answers
 

@@ -16,11 +16,13 @@ use Rattle.shapes.specs.declared.Shape.{Shape}
 use Rattle.shapes.specs.declared.FieldsRead.{FieldsRead}
 use Rattle.shapes.specs.declared.FieldsRead.the-variants as read
 use Rattle.item.specs.Records.{Content, content, asContent, readEx, readRest}
-use Rattle.item.specs.Contents.{ownFields, fromFields}
-use Rattle.item.specs.declared.Kind.{Kind}
-use Rattle.item.specs.declared.Kind.the-variants as kinds
+use Rattle.item.specs.Contents.{ownFields}
+use Rattle.item.specs.Taken.{fromFields}
+use Rattle.kinds.specs.declared.Kind.{Kind}
+use Rattle.kinds.specs.declared.Kind.the-variants as kinds
 use Rattle.item.specs.declared.Tag.the-variants.{Plain}
-use Rattle.records.specs.Views.{restCode, inputKind}
+use Rattle.records.specs.Views.{restCode}
+use Rattle.kinds.specs.Kinds.{inputKind}
 use Rattle.records.specs.declared.Rest.{Rest}
 use Rattle.records.specs.declared.Rest.the-variants as rests
 

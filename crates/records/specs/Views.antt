@@ -1,10 +1,9 @@
--- What the calls of this crate hand back, as the definitions say it.
+-- Inner: what the functions of this crate hand over, as the definitions say it.
 use Prim.Native.Nat.{ℕ}
 use mathlib.Core.Path.{_≡_}
 use mathlib.Core.Bool.{Bool, true, false, cond}
 use mathlib.Core.List.{List, [], _∷_}
 use lib.IntN.{ℤ, pos}
-use lib.ListN.{length, take}
 use Rattle.refusal.specs.declared.Refusal.the-variants.{UnexpectedEnd}
 use Rattle.packer.specs.declared.Part.{Part}
 use Rattle.fields.specs.Fields.{Value, num, bytes, Reading, got, runsOut, refused}
@@ -13,12 +12,11 @@ use Rattle.fields.specs.declared.Args.{Args}
 use Rattle.fields.specs.declared.ArgsAnswer.{ArgsAnswer}
 use Rattle.fields.specs.declared.ArgsAnswer.the-variants as args
 use Rattle.shapes.specs.declared.Shape.the-variants as shapes
-use Rattle.item.specs.Said.{Said, gives, more, refusing}
-use Rattle.item.specs.Records.{Content, content, readRest, readRecord, recordCall}
-use Rattle.item.specs.Contents.{itemOf, ownFields, recordWith, noArgs, recordOf, blank, tidyRecord}
-use Rattle.item.specs.declared.Version.{Version}
-use Rattle.item.specs.declared.Kind.{Kind}
-use Rattle.item.specs.declared.Kind.the-variants as kinds
+use Rattle.item.specs.Records.{Content, readRest, readRecord}
+use Rattle.item.specs.Contents.{itemOf, ownContent, recordWith, noArgs, recordOf, blank, tidyRecord}
+use Rattle.kinds.specs.declared.Version.{Version}
+use Rattle.kinds.specs.declared.Kind.{Kind}
+use Rattle.kinds.specs.declared.Kind.the-variants as kinds
 use Rattle.item.specs.declared.Item.{Item}
 use Rattle.item.specs.declared.Item.the-variants as records
 use Rattle.item.specs.declared.Record.{Record}
@@ -33,12 +31,8 @@ use Rattle.records.specs.declared.RecordAnswer.the-variants as answers
 use Rattle.records.specs.declared.RecordRead.{RecordRead}
 use Rattle.records.specs.declared.CallAnswer.{CallAnswer}
 use Rattle.records.specs.declared.CallAnswer.the-variants as calls
-use Rattle.records.specs.declared.RecordCall.{RecordCall}
 
 -- ---- a record without what stands beside it
-
-abbrev pub ownContent : Content Part → Content Part
-ownContent c = content (c .tag) (take (length (ownFields (c .tag))) (c .values))
 
 abbrev pub own : Reading (Content Part) → Reading (Content Part)
 own (got c next) = got (ownContent c) next
@@ -72,10 +66,6 @@ isShaped rests.Dt = false
 isShaped (rests.Input new) = false
 isShaped rests.Command = false
 isShaped rests.Extension = false
-
-abbrev pub inputKind : Bool → Kind
-inputKind true = kinds.InputNew
-inputKind false = kinds.InputDiff
 
 abbrev pub inputItem : Bool → ℤ → Item
 inputItem true cid = records.InputNew cid
@@ -133,17 +123,3 @@ abbrev pub saidOf : RecordAnswer → Bool → CallAnswer
 saidOf (answers.Got next) last = calls.Got next
 saidOf answers.RunsOut last = cond last (calls.Refused UnexpectedEnd) calls.More
 saidOf (answers.Refused r) last = calls.Refused r
-
-abbrev pub saidBy : CallAnswer → Record → Said (Content Part)
-saidBy (calls.Got used) r = gives (recordOf r) used
-saidBy calls.More r = more
-saidBy (calls.Refused n) r = refusing n
-
-abbrev pub tidySaid : CallAnswer → Record → Record
-tidySaid (calls.Got used) r = tidyRecord r
-tidySaid calls.More r = blank
-tidySaid (calls.Refused n) r = blank
-
-pub record Called (v : Version) (s : List ℕ) (last : Bool) (r : RecordCall) : Type 0 where
-  pub said : saidBy (r .answer) (r .value) ≡ recordCall v s last
-  pub tidy : tidySaid (r .answer) (r .value) ≡ r .value

@@ -4,34 +4,21 @@ ghost use mathlib.Core.Bool.{true};
 ghost use Rattle.fields.specs.Fields.{readFields};
 ghost use Rattle.fields.specs.Views.{zeros};
 ghost use Rattle.item.specs.Records.{readEx, readRest};
-ghost use Rattle.item.specs.Contents.{itemOf, ownFields, fromFields, recordWith, noArgs};
+ghost use Rattle.item.specs.Contents.{itemOf, ownFields, recordWith, noArgs};
+ghost use Rattle.item.specs.Taken.{fromFields};
 ghost use Rattle.item.specs.declared.Tag.the-variants.{Plain};
-ghost use Rattle.records.specs.Views.{
-  itemIs,
-  own,
-  readIs,
-  restCode,
-  isShaped,
-  recordRead,
-  inputKind,
-  inputItem,
-  headIs,
-  commandRead,
-  wholeOf,
-  saidOf,
-  RestRead,
-  RecordAt,
-  Called,
-};
+ghost use Rattle.records.specs.Views.{itemIs, own, readIs, restCode, isShaped, recordRead, inputItem, headIs, commandRead, wholeOf, saidOf, RestRead, RecordAt};
+ghost use Rattle.kinds.specs.Kinds.{inputKind};
+ghost use Rattle.records.specs.Calls.{Called};
 use extension_records::ExRead;
 use fields::Args;
 use fields::ArgsAnswer;
 use fields::InputAnswer;
 use item::Item;
-use item::Kind;
-use item::KindRead;
 use item::Record;
-use item::Version;
+use kinds::Kind;
+use kinds::KindRead;
+use kinds::Version;
 use packer::Part;
 use packer::PartRead;
 use refusal::Refusal;
@@ -417,7 +404,7 @@ fn said_of(answer: RecordAnswer, last: bool) -> CallAnswer
 fn read_record(version: Version, s: &[u8]) -> RecordRead
     ensures { λ r. ⌜ RecordAt version (now (s .entry)) r ⌝ }
 {
-    let read = item::read_kind(version, s, 0);
+    let read = kinds::read_kind(version, s, 0);
     match read {
         KindRead::Got { kind, next } => read_rest(kind, s, next),
         KindRead::RunsOut => alone(RecordAnswer::RunsOut, Item::Finish),

@@ -5,12 +5,12 @@
 use back::BackAnswer;
 use back::Board;
 use back::BoardTick;
-use item::Cid;
 use item::Item;
-use item::Kind;
-use item::MagicRead;
-use item::Version;
-use item::VersionOf;
+use kinds::Cid;
+use kinds::Kind;
+use kinds::MagicRead;
+use kinds::Version;
+use kinds::VersionOf;
 use libc::STDOUT_FILENO;
 use packer::Part;
 use refusal::Refusal;
@@ -80,7 +80,7 @@ fn magics() {
 
 fn version(name: &[u8], n: i32) {
     say(name);
-    match item::version_of(n) {
+    match kinds::version_of(n) {
         VersionOf::Is(v) => match v {
             Version::V1 => say(b" is V1\n"),
             Version::V2 => say(b" is V2\n"),

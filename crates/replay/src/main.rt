@@ -4,8 +4,8 @@ ghost use mathlib.Core.Path.{_≡_};
 ghost use Prim.Native.Nat.{_<_};
 ghost use lib.ListN.{length};
 use feed::Hand;
-use item::Version;
-use item::VersionOf;
+use kinds::Version;
+use kinds::VersionOf;
 use libc::STDERR_FILENO;
 use libc::STDIN_FILENO;
 use libc::STDOUT_FILENO;
@@ -152,7 +152,7 @@ fn start(hand: Hand, buf: &mut [u8], rows: &mut [i32], tens: &mut [i32], out: &m
     if buf.len() == 0 {
         return;
     }
-    match item::version_of(number(buf[0])) {
+    match kinds::version_of(number(buf[0])) {
         VersionOf::Is(version) => replay(first_turn(version, hand), buf, rows, tens, out),
         VersionOf::Refused(r) => refuse(r),
     }

@@ -3,8 +3,8 @@
 ghost use mathlib.Core.Path.{_≡_};
 ghost use lib.ListN.{length};
 use feed::Hand;
-use item::Version;
-use item::VersionOf;
+use kinds::Version;
+use kinds::VersionOf;
 use libc::STDOUT_FILENO;
 use lines::Ending;
 use packer::PartRead;
@@ -111,7 +111,7 @@ fn run_case(input: &[u8]) {
         refuse(Refusal::UnknownVersion);
         return;
     }
-    match item::version_of(number(input[0])) {
+    match kinds::version_of(number(input[0])) {
         VersionOf::Is(version) => replay(version, &input[1..], &mut rows, &mut tens, &mut out),
         VersionOf::Refused(r) => refuse(r),
     }

@@ -41,14 +41,17 @@ use Rattle.fields.specs.Fields.{
   andThen,
   readFields,
 }
-use Rattle.item.specs.Kinds.{withClient, extension, kindOf, afterNumber, readKind}
-use Rattle.item.specs.Extensions.{Payload, shaped, whole, unknown, find, payloadAt}
-use Rattle.item.specs.Records.{Rest, fields, Content, asContent, upTo, ofPayload, afterData, afterId, readEx, readAs, restOf, readRest}
+use Rattle.kinds.specs.Kinds.{withClient, extension, kindOf, afterNumber, readKind}
+use Rattle.extensions.specs.Extensions.{Payload, shaped, whole, find, payloadAt}
+use Rattle.extensions.specs.declared.Extension.{Extension}
+use Rattle.extensions.specs.declared.Found.{Found}
+use Rattle.extensions.specs.declared.Found.the-variants.{Known, Unknown}
+use Rattle.item.specs.Records.{Rest, fields, Content, asContent, upTo, ofPayload, ofFound, afterData, afterId, readEx, readAs, restOf, readRest}
 use Rattle.item.specs.Records as records
-use Rattle.item.specs.declared.Version.{Version}
-use Rattle.item.specs.declared.Version.the-variants.{V1, V2}
-use Rattle.item.specs.declared.Kind.{Kind}
-use Rattle.item.specs.declared.Kind.the-variants.{PlayerNew, PlayerOld}
+use Rattle.kinds.specs.declared.Version.{Version}
+use Rattle.kinds.specs.declared.Version.the-variants.{V1, V2}
+use Rattle.kinds.specs.declared.Kind.{Kind}
+use Rattle.kinds.specs.declared.Kind.the-variants.{PlayerNew, PlayerOld}
 use Rattle.item.specs.declared.Tag.{Tag}
 use Rattle.item.specs.declared.Tag.the-variants.{Named}
 use Rattle.state.proofs.Every.{by-cond}
@@ -201,13 +204,16 @@ upto-past at end (got c n) h = h
 upto-past at end runsOut h = tt
 upto-past at end (refused r) h = tt
 
-payload-past : (s : List ℕ) (at : ℕ) (id p : Part) (k : ℕ) (y : Payload) (next : ℕ) → at ≤ next → Past at (ofPayload s id p k y next)
-payload-past s at id p k (shaped fs) next h = upto-past at next (asContent (Named k) (readFields fs (take next s) (p .at))) h
-payload-past s at id p k whole next h = h
-payload-past s at id p k unknown next h = h
+payload-past : (s : List ℕ) (at : ℕ) (p : Part) (k : Extension) (y : Payload) (next : ℕ) → at ≤ next → Past at (ofPayload s p k y next)
+payload-past s at p k (shaped fs) next h = upto-past at next (asContent (Named k) (readFields fs (take next s) (p .at))) h
+payload-past s at p k whole next h = h
+
+found-past : (s : List ℕ) (at : ℕ) (id p : Part) (f : Found) (next : ℕ) → at ≤ next → Past at (ofFound s id p f next)
+found-past s at id p (Known k) next h = payload-past s at p k (payloadAt k) next h
+found-past s at id p Unknown next h = h
 
 after-data : (s : List ℕ) (at : ℕ) (id : Part) (x : PartRead) → PartPast at x → Past at (afterData s id x)
-after-data s at id (parts.Got p next) h = payload-past s at id p (find (shown s id)) (payloadAt (find (shown s id))) next h
+after-data s at id (parts.Got p next) h = found-past s at id p (find (shown s id)) next h
 after-data s at id parts.RunsOut h = tt
 
 after-id : (s : List ℕ) (at : ℕ) (x : PartRead) → PartPast at x → Past at (afterId s x)

@@ -12,8 +12,8 @@ use mir.Syntax.{w32}
 use mir.Val.{SFits, ofZ}
 use Rattle.num.proofs.Signs.{key}
 use Rattle.item.specs.Contents.{cidOf, tagNumber}
-use Rattle.item.specs.declared.Cid.{Cid}
-use Rattle.item.specs.declared.Cid.the-variants.{Of, NoCid}
+use Rattle.kinds.specs.declared.Cid.{Cid}
+use Rattle.kinds.specs.declared.Cid.the-variants.{Of, NoCid}
 use Rattle.state.specs.Reading.{Event, tickStart, tickEnd, playerNew, playerChange, playerOld, input, other}
 use Rattle.many.specs.Many.{Seen, hasClient, clientOr0, eventRow, rowOf, eventTens, tensOf}
 use Rattle.lines.specs.Lines.{

@@ -9,8 +9,8 @@ use Rattle.fields.specs.Fields.{Reading, got, runsOut, refused}
 use Rattle.fields.specs.Laws.{isOut}
 use Rattle.item.specs.Said.{Said, gives, more, finish, refuses}
 use Rattle.item.specs.Records.{Content, restOf, readRest}
-use Rattle.item.specs.declared.Version.{Version}
-use Rattle.item.specs.declared.Kind.{Kind}
+use Rattle.kinds.specs.declared.Version.{Version}
+use Rattle.kinds.specs.declared.Kind.{Kind}
 use Rattle.state.specs.State.{Memory, goodReader}
 use Rattle.state.specs.Reading.{
   Event,

@@ -5,7 +5,7 @@ use mathlib.Core.Bool.{Bool, true, false, cond}
 use mathlib.Core.List.{List, [], _∷_, _++_}
 use lib.ListN.{length, take, drop}
 use Rattle.item.specs.Said.{more}
-use Rattle.item.specs.declared.Version.{Version}
+use Rattle.kinds.specs.declared.Version.{Version}
 use Rattle.state.specs.State.{emptyReader}
 use Rattle.state.specs.Reading.{readCall}
 use Rattle.state.specs.declared.Reader.{Reader}

@@ -7,8 +7,8 @@ use lib.ListN.{length, take, drop, getD}
 use lib.IntN.{ℤ, pos}
 use Rattle.varint.specs.declared.Wrote.{Wrote}
 use Rattle.varint.specs.declared.Wrote.the-variants.{Past, Refused}
-use Rattle.item.specs.declared.Cid.{Cid}
-use Rattle.item.specs.declared.Cid.the-variants.{Of, NoCid}
+use Rattle.kinds.specs.declared.Cid.{Cid}
+use Rattle.kinds.specs.declared.Cid.the-variants.{Of, NoCid}
 use Rattle.state.specs.State.{same}
 use Rattle.many.specs.Many.{Seen, rowOf, tensOf}
 use Rattle.lines.specs.Lines.{plainLine, plainMost, recordLine, lineOf, longest, Puts, textAnswer, textTarget}

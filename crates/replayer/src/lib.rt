@@ -7,7 +7,7 @@ ghost use Rattle.lines.specs.Lines.{inputWord, longest, Puts};
 ghost use Rattle.many.specs.Many.{haltOf};
 ghost use Rattle.replayer.specs.Replay.{endingOf, ends, tooLong, wants, turnRoom, turnRun, noTurn, Turns};
 ghost use Rattle.replayer.specs.Rows.{pastOr, Tries, TriesPlain, cidTold, clientAnd, recordTold, PutsLine, PutsLines};
-use item::Cid;
+use kinds::Cid;
 use lines::Ending;
 use many::Stop;
 use state::Reader;

@@ -16,8 +16,11 @@ use Rattle.packer.specs.declared.PartRead.the-variants as parts
 use Rattle.packer.proofs.Parts.{raw-taken, data-taken}
 use Rattle.fields.specs.Fields.{Field, Value, Reading, got, runsOut, refused, readFields}
 use Rattle.fields.proofs.AllTaken.{fields-taken}
-use Rattle.item.specs.Kinds.{withClient, extension, kindOf, afterNumber, readKind}
-use Rattle.item.specs.Extensions.{Payload, shaped, whole, unknown, find, payloadAt}
+use Rattle.kinds.specs.Kinds.{withClient, extension, kindOf, afterNumber, readKind}
+use Rattle.extensions.specs.Extensions.{Payload, shaped, whole, find, payloadAt}
+use Rattle.extensions.specs.declared.Extension.{Extension}
+use Rattle.extensions.specs.declared.Found.{Found}
+use Rattle.extensions.specs.declared.Found.the-variants.{Known, Unknown}
 use Rattle.item.specs.Records.{
   Content,
   Rest,
@@ -26,6 +29,7 @@ use Rattle.item.specs.Records.{
   asContent,
   upTo,
   ofPayload,
+  ofFound,
   afterData,
   afterId,
   readEx,
@@ -33,10 +37,10 @@ use Rattle.item.specs.Records.{
   readRest,
 }
 use Rattle.item.specs.Records as records
-use Rattle.item.specs.declared.Version.{Version}
-use Rattle.item.specs.declared.Version.the-variants.{V1, V2}
-use Rattle.item.specs.declared.Kind.{Kind}
-use Rattle.item.specs.declared.Kind.the-variants as kinds
+use Rattle.kinds.specs.declared.Version.{Version}
+use Rattle.kinds.specs.declared.Version.the-variants.{V1, V2}
+use Rattle.kinds.specs.declared.Kind.{Kind}
+use Rattle.kinds.specs.declared.Kind.the-variants as kinds
 use Rattle.item.specs.declared.Tag.{Tag}
 use Rattle.item.specs.declared.Tag.the-variants.{Plain, Named, Other}
 use Rattle.state.specs.State.{goodKind, goodPending}
@@ -125,19 +129,22 @@ module _ (w : List ℕ) (at : ℕ) (h : at ≤ length w) where
   plain-told : (k : Kind) → isPlain (restOf k) → restTold k (length w) (readAs w k (restOf k) at)
   plain-told k p = as-told k (restOf k) p
 
-  upto-told : (k next : ℕ) (x : Reading (List (Value Part))) → next ≤ length w → restTold kinds.Ex (length w) (upTo next (asContent (Named k) x))
+  upto-told : (k : Extension) (next : ℕ) (x : Reading (List (Value Part))) → next ≤ length w
+      → restTold kinds.Ex (length w) (upTo next (asContent (Named k) x))
   upto-told k next (got vs n) l = (l, refl)
   upto-told k next runsOut l = tt
   upto-told k next (refused r) l = tt
 
-  payload-told : (id p : Part) (k : ℕ) (y : Payload) (next : ℕ) → next ≤ length w → restTold kinds.Ex (length w) (ofPayload w id p k y next)
-  payload-told id p k (shaped fs) next l = upto-told k next (readFields fs (take next w) (p .at)) l
-  payload-told id p k whole next l = (l, refl)
-  payload-told id p k unknown next l = (l, refl)
+  payload-told : (p : Part) (k : Extension) (y : Payload) (next : ℕ) → next ≤ length w → restTold kinds.Ex (length w) (ofPayload w p k y next)
+  payload-told p k (shaped fs) next l = upto-told k next (readFields fs (take next w) (p .at)) l
+  payload-told p k whole next l = (l, refl)
+
+  found-told : (id p : Part) (f : Found) (next : ℕ) → next ≤ length w → restTold kinds.Ex (length w) (ofFound w id p f next)
+  found-told id p (Known k) next l = payload-told p k (payloadAt k) next l
+  found-told id p Unknown next l = (l, refl)
 
 data-told : (w : List ℕ) (at : ℕ) (id : Part) (x : PartRead) → at ≤ length w → readData w at ≡ x → restTold kinds.Ex (length w) (afterData w id x)
-data-told w at id (parts.Got p next) h e =
-    payload-told w at h id p (find (shown w id)) (payloadAt (find (shown w id))) next (data-taken w at next p e .within)
+data-told w at id (parts.Got p next) h e = found-told w at h id p (find (shown w id)) next (data-taken w at next p e .within)
 data-told w at id parts.RunsOut h e = tt
 
 id-told : (w : List ℕ) (at : ℕ) (x : PartRead) → readRaw 16 w at ≡ x → restTold kinds.Ex (length w) (afterId w x)

@@ -10,7 +10,7 @@ use mir.Syntax.{w32}
 use mir.Val.{SFits, toZ, ofZ}
 use mir.Facts.{toZ-pos}
 use Rattle.item.specs.Said.{gives}
-use Rattle.item.specs.declared.Cid.the-variants.{Of, NoCid}
+use Rattle.kinds.specs.declared.Cid.the-variants.{Of, NoCid}
 use Rattle.state.specs.State.{Memory}
 use Rattle.state.specs.Reading.{tickStart, tickEnd, step, skipping, nextTick, skipped, endsAt, playerRule}
 use Rattle.state.specs.declared.Scalars.{Scalars}

@@ -28,9 +28,9 @@ use Rattle.fields.specs.Views.{numbers}
 use Rattle.item.specs.Said.{Said, gives, more, finish, refusing}
 use Rattle.item.specs.Records.{Content, readRest}
 use Rattle.item.specs.Contents.{cidOf}
-use Rattle.item.specs.declared.Kind.{Kind}
-use Rattle.item.specs.declared.Kind.the-variants as kinds
-use Rattle.item.specs.declared.Cid.the-variants.{Of, NoCid}
+use Rattle.kinds.specs.declared.Kind.{Kind}
+use Rattle.kinds.specs.declared.Kind.the-variants as kinds
+use Rattle.kinds.specs.declared.Cid.the-variants.{Of, NoCid}
 use Rattle.state.specs.State.{Memory, withEntries, present, xOf, yOf, withPlayer, moved, holds, tenOf, withInput, goodReader}
 use Rattle.state.specs.Reading.{
   Event,

@@ -7,7 +7,7 @@ use mathlib.Core.List.{List}
 use lib.ListN.{length}
 use lib.IntN.{ℤ, pos}
 use Rattle.item.specs.Said.{Said, gives, more, finish, refuses}
-use Rattle.item.specs.declared.Version.{Version}
+use Rattle.kinds.specs.declared.Version.{Version}
 use Rattle.state.specs.State.{Memory, withEntries, withPlayer, goodEntries, goodScalars, goodReader, emptyReader}
 use Rattle.state.specs.Reading.{
   Event,

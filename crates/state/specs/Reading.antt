@@ -24,16 +24,16 @@ use Rattle.packer.specs.declared.Part.{Part}
 use Rattle.fields.specs.Fields.{Value, Reading, got, runsOut, refused}
 use Rattle.fields.specs.Views.{zeros, numbers}
 use Rattle.item.specs.Said.{Said, gives, more, finish, refusing}
-use Rattle.item.specs.Kinds.{readKind}
+use Rattle.kinds.specs.Kinds.{readKind}
 use Rattle.item.specs.Records.{Content, content, readRest}
 use Rattle.item.specs.Contents.{cidOf}
-use Rattle.item.specs.declared.Version.{Version}
-use Rattle.item.specs.declared.Kind.{Kind}
-use Rattle.item.specs.declared.Kind.the-variants as kinds
+use Rattle.kinds.specs.declared.Version.{Version}
+use Rattle.kinds.specs.declared.Kind.{Kind}
+use Rattle.kinds.specs.declared.Kind.the-variants as kinds
 use Rattle.item.specs.declared.Tag.{Tag}
 use Rattle.item.specs.declared.Tag.the-variants.{Plain, Named, Other}
-use Rattle.item.specs.declared.Cid.{Cid}
-use Rattle.item.specs.declared.Cid.the-variants.{Of, NoCid}
+use Rattle.kinds.specs.declared.Cid.{Cid}
+use Rattle.kinds.specs.declared.Cid.the-variants.{Of, NoCid}
 use Rattle.state.specs.State.{
   larger,
   Memory,

@@ -5,7 +5,7 @@ use Rattle.packer.specs.declared.Part.{Part}
 use Rattle.item.specs.Said.{Said, gives, more, finish, refuses, refusing}
 use Rattle.item.specs.Records.{Content}
 use Rattle.item.specs.Contents.{itemOf}
-use Rattle.records.specs.Views.{ownContent}
+use Rattle.item.specs.Contents.{ownContent}
 use Rattle.state.specs.State.{Memory}
 use Rattle.state.specs.Reading.{
   Event,

@@ -19,10 +19,10 @@ ghost use Rattle.state.specs.Reading.{
   tickRule,
 };
 ghost use Rattle.state.specs.Views.{done};
-use item::Cid;
 use item::Item;
-use item::Kind;
-use item::Version;
+use kinds::Cid;
+use kinds::Kind;
+use kinds::Version;
 use refusal::Refusal;
 
 // The kind that was read and whose record was not, or none.

@@ -4,10 +4,10 @@ use mathlib.Core.Path.{_≡_, sym, ap, _∙_}
 use mathlib.Core.Bool.{Bool}
 use mathlib.Core.List.{List}
 use Rattle.refusal.specs.declared.Refusal.{Refusal}
-use Rattle.item.specs.Views.{kindIs}
-use Rattle.item.specs.declared.Kind.{Kind}
-use Rattle.item.specs.declared.KindRead.{KindRead}
-use Rattle.item.specs.declared.KindRead.the-variants as reads
+use Rattle.kinds.specs.Views.{kindIs}
+use Rattle.kinds.specs.declared.Kind.{Kind}
+use Rattle.kinds.specs.declared.KindRead.{KindRead}
+use Rattle.kinds.specs.declared.KindRead.the-variants as reads
 use Rattle.state.specs.State.{Memory}
 use Rattle.state.specs.Reading.{Step, refusal, outOf, tickRule, withRule, withKind, nextKind, openCall}
 use Rattle.state.specs.Views.{slimStep}

@@ -12,16 +12,22 @@ use Rattle.packer.specs.declared.PartRead.{PartRead}
 use Rattle.packer.specs.declared.PartRead.the-variants as parts
 use Rattle.fields.specs.Fields.{Value, num, bytes, strings, Reading, got, runsOut, refused, readFields}
 use Rattle.item.specs.Said.{gives}
-use Rattle.item.specs.Extensions.{Payload, shaped, whole, unknown, Extension, extensions, noExtension, payloadAt, hasClient, find}
-use Rattle.item.specs.Records.{Content, content, Rest, fields, extension, restOf, readAs, asContent, upTo, ofPayload, afterData, afterId, readEx, readRest}
-use Rattle.item.specs.Contents.{firstNumber, kindCid, tagCid, cidOf, ownPayload, ownFields}
-use Rattle.item.specs.declared.Kind.{Kind}
-use Rattle.item.specs.declared.Kind.the-variants as kinds
+use Rattle.extensions.specs.Extensions.{Payload, shaped, whole, extensionRow, payloadAt, hasClient, all, find}
+use Rattle.extensions.specs.declared.Extension.{Extension}
+use Rattle.extensions.specs.declared.Found.{Found}
+use Rattle.extensions.specs.declared.Found.the-variants.{Known, Unknown}
+use Rattle.extensions.proofs.Each.{tested}
+use Rattle.item.specs.Records.{Content, content, Rest, fields, extension, restOf, readAs, asContent, upTo, ofPayload, ofFound, afterData, afterId, readEx, readRest}
+use Rattle.item.specs.Contents.{firstNumber, tagCid, cidOf, ownPayload, ownFields}
+use Rattle.kinds.specs.Kinds.{kindCid}
+use Rattle.kinds.specs.declared.Kind.{Kind}
+use Rattle.kinds.specs.declared.Kind.the-variants as kinds
 use Rattle.item.specs.declared.Tag.{Tag}
 use Rattle.item.specs.declared.Tag.the-variants.{Plain, Named, Other}
-use Rattle.item.specs.declared.Cid.{Cid}
-use Rattle.item.specs.declared.Cid.the-variants.{Of, NoCid}
-use Rattle.records.specs.Views.{ownContent, own, itemIs}
+use Rattle.kinds.specs.declared.Cid.{Cid}
+use Rattle.kinds.specs.declared.Cid.the-variants.{Of, NoCid}
+use Rattle.records.specs.Views.{own, itemIs}
+use Rattle.item.specs.Contents.{ownContent}
 use Rattle.records.specs.declared.ItemRead.{ItemRead}
 use Rattle.state.specs.State.{Memory}
 use Rattle.state.specs.Reading.{Step, step, other, raising, refusal, outOf, otherRecord, applyTag, apply, withRest}
@@ -68,18 +74,21 @@ plain-other k (got vs n) o = o
 plain-other k runsOut o = tt
 plain-other k (refused r) o = tt
 
-upto-other : (k end : ℕ) (x : Reading (List (Value Part))) → OtherRest (upTo end (asContent (Named k) x))
+upto-other : (k : Extension) (end : ℕ) (x : Reading (List (Value Part))) → OtherRest (upTo end (asContent (Named k) x))
 upto-other k end (got vs n) = refl
 upto-other k end runsOut = tt
 upto-other k end (refused r) = tt
 
-payload-other : (w : List ℕ) (id p : Part) (k : ℕ) (y : Payload) (next : ℕ) → OtherRest (ofPayload w id p k y next)
-payload-other w id p k (shaped fs) next = upto-other k next (readFields fs (take next w) (p .at))
-payload-other w id p k whole next = refl
-payload-other w id p k unknown next = refl
+payload-other : (w : List ℕ) (p : Part) (k : Extension) (y : Payload) (next : ℕ) → OtherRest (ofPayload w p k y next)
+payload-other w p k (shaped fs) next = upto-other k next (readFields fs (take next w) (p .at))
+payload-other w p k whole next = refl
+
+found-other : (w : List ℕ) (id p : Part) (f : Found) (next : ℕ) → OtherRest (ofFound w id p f next)
+found-other w id p (Known k) next = payload-other w p k (payloadAt k) next
+found-other w id p Unknown next = refl
 
 data-other : (w : List ℕ) (id : Part) (x : PartRead) → OtherRest (afterData w id x)
-data-other w id (parts.Got p next) = payload-other w id p (find (shown w id)) (payloadAt (find (shown w id))) next
+data-other w id (parts.Got p next) = found-other w id p (find (shown w id)) next
 data-other w id parts.RunsOut = tt
 
 id-other : (w : List ℕ) (x : PartRead) → OtherRest (afterId w x)
@@ -113,26 +122,15 @@ abbrev full : Payload → Bool
 full (shaped []) = false
 full (shaped (f ∷ fs)) = true
 full whole = true
-full unknown = true
 
 first-payload : (p : Payload) → full p ≡ true → First (length (ownPayload p))
 first-payload (shaped []) e = no-other e
 first-payload (shaped (f ∷ fs)) e = first-more (length fs)
 first-payload whole e = first-more 0
-first-payload unknown e = first-more 1
 
-abbrev allFull : List Extension → Bool
-allFull [] = true
-allFull (x ∷ xs) = full (x .payload) && allFull xs
-
-full-at : (xs : List Extension) (k : ℕ) → allFull xs ≡ true → full (getD xs k noExtension .payload) ≡ true
-full-at [] k e = refl
-full-at (x ∷ xs) zero e = left-of (full (x .payload)) (allFull xs) e
-full-at (x ∷ xs) (suc k) e = full-at xs k (right-of (full (x .payload)) (allFull xs) e)
-
-first-named : (k : ℕ) → First (length (ownPayload (payloadAt k)))
-unfolding payloadAt extensions
-first-named k = first-payload (payloadAt k) (full-at extensions k refl)
+first-named : (k : Extension) → First (length (ownPayload (payloadAt k)))
+unfolding payloadAt extensionRow all
+first-named k = first-payload (payloadAt k) (tested (λ e. full (payloadAt e)) refl k)
 
 cid-kind : (k : Kind) (vs : List (Value Part)) → kindCid k (firstNumber (take (length (ownFields (Plain k))) vs)) ≡ kindCid k (firstNumber vs)
 cid-kind (kinds.PlayerDiff c) vs = refl

@@ -22,15 +22,16 @@ use Rattle.shapes.specs.declared.PairRead.{PairRead}
 use Rattle.shapes.specs.declared.PairRead.the-variants as pairs
 use Rattle.item.specs.Said.{finish}
 use Rattle.item.specs.Records.{asContent, readRest}
-use Rattle.item.specs.declared.Kind.the-variants as kinds
+use Rattle.kinds.specs.declared.Kind.the-variants as kinds
 use Rattle.item.specs.declared.Tag.the-variants.{Plain}
-use Rattle.item.specs.declared.Cid.the-variants.{Of}
+use Rattle.kinds.specs.declared.Cid.the-variants.{Of}
 use Rattle.records.proofs.Inputs.{Numbers, all-numbers}
 use Rattle.state.specs.State.{Memory}
 use Rattle.state.specs.Reading.{Step, step, refusal, outOf, closing, naming, raising, playerDiff, newPlayer, oldPlayer, inputDiff, inputNew, tickSkip, first, apply, withRest}
 use Rattle.state.specs.Views.{slimStep}
 use Rattle.state.specs.declared.Scalars.{Scalars}
-use Rattle.step.specs.Kinds.{pairKind, inputKind}
+use Rattle.step.specs.Kinds.{pairKind}
+use Rattle.kinds.specs.Kinds.{inputKind}
 use Rattle.step.proofs.Slim.{slim-calm, calm-refusal, calm-out, calm-diff, calm-new, calm-old, calm-input-diff, calm-input-new, calm-skip}
 
 module _ (s : Scalars) (m : Memory) (last : Bool) (w : List ℕ) (at : ℕ) where

@@ -1,16 +1,12 @@
 -- Which kinds share a function of this crate.
 use mathlib.Core.Bool.{Bool, true, false}
 use lib.IntN.{ℤ}
-use Rattle.item.specs.declared.Kind.{Kind}
-use Rattle.item.specs.declared.Kind.the-variants as kinds
+use Rattle.kinds.specs.declared.Kind.{Kind}
+use Rattle.kinds.specs.declared.Kind.the-variants as kinds
 
 abbrev pub pairKind : Bool → ℤ → Kind
 pairKind true cid = kinds.PlayerNew cid
 pairKind false cid = kinds.PlayerDiff cid
-
-abbrev pub inputKind : Bool → Kind
-inputKind true = kinds.InputNew
-inputKind false = kinds.InputDiff
 
 -- a record that changes no entry
 abbrev pub isOther : Kind → Bool

@@ -7,16 +7,17 @@ ghost use Prim.Native.Nat.{ℕ};
 ghost use lib.IntN.{ℤ};
 ghost use Rattle.item.specs.Records.{readRest};
 ghost use Rattle.item.specs.Said.{gives, finish};
-ghost use Rattle.item.specs.Views.{kindIs};
+ghost use Rattle.kinds.specs.Views.{kindIs};
 ghost use Rattle.state.specs.State.{Memory, memory};
 ghost use Rattle.state.specs.Reading.{step, closing, nextKind, withRest, withRule, openCall, goodCall};
 ghost use Rattle.state.specs.Views.{eventIs, done, slimStep};
-ghost use Rattle.step.specs.Kinds.{pairKind, inputKind, isOther};
+ghost use Rattle.step.specs.Kinds.{pairKind, isOther};
+ghost use Rattle.kinds.specs.Kinds.{inputKind};
 use fields::InputAnswer;
-use item::Cid;
-use item::Kind;
-use item::KindRead;
-use item::Version;
+use kinds::Cid;
+use kinds::Kind;
+use kinds::KindRead;
+use kinds::Version;
 use records::ItemRead;
 use refusal::Refusal;
 use shapes::PairRead;
@@ -32,7 +33,7 @@ pub fn next_kind(version: Version, pending: Pending, w: &[u8]) -> KindRead
     ensures { λ r. ⌜ kindIs r ≡ nextKind version pending (now (w .entry)) ⌝ }
 {
     let Pending::Is(kind) = pending else {
-        return item::read_kind(version, w, 0);
+        return kinds::read_kind(version, w, 0);
     };
     KindRead::Got { kind, next: 0 }
 }

@@ -8,10 +8,12 @@ use Rattle.packer.specs.declared.Part.{Part}
 use Rattle.fields.specs.Fields.{Value, num, bytes, strings}
 use Rattle.fields.specs.Views.{noPart, numbers}
 use Rattle.fields.specs.declared.Args.{Args}
+use Rattle.extensions.specs.declared.Extension.{Extension}
+use Rattle.extensions.specs.declared.Extension.the-variants as extensions
 use Rattle.item.specs.Records.{Content}
 use Rattle.item.specs.Contents.{itemOf, withBeside, noArgs}
-use Rattle.item.specs.declared.Kind.{Kind}
-use Rattle.item.specs.declared.Kind.the-variants as kinds
+use Rattle.kinds.specs.declared.Kind.{Kind}
+use Rattle.kinds.specs.declared.Kind.the-variants as kinds
 use Rattle.item.specs.declared.Tag.{Tag}
 use Rattle.item.specs.declared.Tag.the-variants.{Plain, Named, Other}
 use Rattle.item.specs.declared.Item.{Item}
@@ -60,33 +62,31 @@ module _ (zs : List ℤ) (ps : List Part) where
   ofKind kinds.ConsoleCommand = items.ConsoleCommand a (natural b) p
   ofKind kinds.Ex = items.Finish
 
-  abbrev named : List Item
-  named =
-      items.Antibot p
-      ∷ items.AuthInit a b p
-      ∷ items.AuthLogin a b p
-      ∷ items.AuthLogout a
-      ∷ items.Ddnetver a (p .at) b q
-      ∷ items.DdnetverOld a b
-      ∷ items.Joinver6 a
-      ∷ items.Joinver7 a
-      ∷ items.PlayerFinish a b
-      ∷ items.PlayerName a p
-      ∷ items.PlayerReady a
-      ∷ items.PlayerRejoin a
-      ∷ items.PlayerSwap a b
-      ∷ items.PlayerTeam a b
-      ∷ items.TeamFinish a b
-      ∷ items.TeamLoadFailure a
-      ∷ items.TeamLoadSuccess a (p .at) q
-      ∷ items.TeamPractice a b
-      ∷ items.TeamSaveFailure a
-      ∷ items.TeamSaveSuccess a (p .at) q
-      ∷ []
+  abbrev ofExtension : Extension → Item
+  ofExtension extensions.Antibot = items.Antibot p
+  ofExtension extensions.AuthInit = items.AuthInit a b p
+  ofExtension extensions.AuthLogin = items.AuthLogin a b p
+  ofExtension extensions.AuthLogout = items.AuthLogout a
+  ofExtension extensions.Ddnetver = items.Ddnetver a (p .at) b q
+  ofExtension extensions.DdnetverOld = items.DdnetverOld a b
+  ofExtension extensions.Joinver6 = items.Joinver6 a
+  ofExtension extensions.Joinver7 = items.Joinver7 a
+  ofExtension extensions.PlayerFinish = items.PlayerFinish a b
+  ofExtension extensions.PlayerName = items.PlayerName a p
+  ofExtension extensions.PlayerReady = items.PlayerReady a
+  ofExtension extensions.PlayerRejoin = items.PlayerRejoin a
+  ofExtension extensions.PlayerSwap = items.PlayerSwap a b
+  ofExtension extensions.PlayerTeam = items.PlayerTeam a b
+  ofExtension extensions.TeamFinish = items.TeamFinish a b
+  ofExtension extensions.TeamLoadFailure = items.TeamLoadFailure a
+  ofExtension extensions.TeamLoadSuccess = items.TeamLoadSuccess a (p .at) q
+  ofExtension extensions.TeamPractice = items.TeamPractice a b
+  ofExtension extensions.TeamSaveFailure = items.TeamSaveFailure a
+  ofExtension extensions.TeamSaveSuccess = items.TeamSaveSuccess a (p .at) q
 
   abbrev ofTag : Tag → Item
   ofTag (Plain k) = ofKind k
-  ofTag (Named k) = getD named k items.Finish
+  ofTag (Named e) = ofExtension e
   ofTag Other = items.UnknownEx (p .at) q
 
 abbrev pub itemBy : Content Part → Item

@@ -8,9 +8,8 @@ use Rattle.fields.specs.Fields.{Value, num}
 use Rattle.fields.specs.Views.{zeros, numbers}
 use Rattle.fields.specs.declared.Args.{Args}
 use Rattle.item.specs.Records.{Content}
-use Rattle.item.specs.Contents.{itemOf, besideKind, beside, withBeside, noArgs, recordWith, tidyKind, tidyTag}
-use Rattle.item.specs.declared.Kind.{Kind}
-use Rattle.item.specs.declared.Kind.the-variants as kinds
+use Rattle.item.specs.Contents.{itemOf, besideValues, beside, withBeside, noArgs, recordWith, tidyBeside, tidyTag}
+use Rattle.kinds.specs.Kinds.{Beside, nothing, ten, arguments, ofExtension, kindRow}
 use Rattle.item.specs.declared.Tag.{Tag}
 use Rattle.item.specs.declared.Tag.the-variants.{Plain, Named, Other}
 use Rattle.item.specs.declared.Item.{Item}
@@ -31,9 +30,9 @@ numbers-num (z ∷ zs) = ap (λ (l : List ℤ). z ∷ l) (numbers-num zs)
 pub same-ten : (a b : List ℤ) → nums a ≡ nums b → a ≡ b
 same-ten a b e = sym (numbers-num a) ∙ ap numbers e ∙ numbers-num b
 
-pub same-beside : (i : Item) (ten ten' : List ℤ) (xs ys : Args) → withBeside (itemOf i) ten xs ≡ withBeside (itemOf i) ten' ys
-    → beside (itemOf i .tag) ten xs ≡ beside (itemOf i .tag) ten' ys
-same-beside i ten ten' xs ys e = append-cancel-left (itemOf i .values) _ _ (ap (λ (c : Content Part). c .values) e)
+pub same-beside : (i : Item) (zs zs' : List ℤ) (xs ys : Args) → withBeside (itemOf i) zs xs ≡ withBeside (itemOf i) zs' ys
+    → beside (itemOf i .tag) zs xs ≡ beside (itemOf i .tag) zs' ys
+same-beside i zs zs' xs ys e = append-cancel-left (itemOf i .values) _ _ (ap (λ (c : Content Part). c .values) e)
 
 -- ---- and nothing else stands there
 
@@ -45,24 +44,16 @@ module _ (a b : Record) (i : a .item ≡ b .item) where
       → nums (a .input) ≡ nums (b .input) → a ≡ b
   same-input ta tb e = let t : a .input ≡ b .input = same-ten (a .input) (b .input) e in sym ta ∙ rw (i, t) tb
 
-  same-kind : (k : Kind) → tidyKind k a ≡ a → tidyKind k b ≡ b
-      → besideKind k (a .input) (a .args) ≡ besideKind k (b .input) (b .args) → a ≡ b
-  same-kind (kinds.PlayerDiff c) ta tb e = same-none ta tb
-  same-kind kinds.Finish ta tb e = same-none ta tb
-  same-kind kinds.TickSkip ta tb e = same-none ta tb
-  same-kind (kinds.PlayerNew c) ta tb e = same-none ta tb
-  same-kind (kinds.PlayerOld c) ta tb e = same-none ta tb
-  same-kind kinds.InputDiff ta tb e = same-input ta tb e
-  same-kind kinds.InputNew ta tb e = same-input ta tb e
-  same-kind kinds.Message ta tb e = same-none ta tb
-  same-kind kinds.Join ta tb e = same-none ta tb
-  same-kind kinds.Drop ta tb e = same-none ta tb
-  same-kind kinds.ConsoleCommand ta tb e =
+  same-by : (k : Beside) → tidyBeside k a ≡ a → tidyBeside k b ≡ b
+      → besideValues k (a .input) (a .args) ≡ besideValues k (b .input) (b .args) → a ≡ b
+  same-by nothing ta tb e = same-none ta tb
+  same-by ten ta tb e = same-input ta tb e
+  same-by arguments ta tb e =
       let t : take (a .args .count) (a .args .parts) ≡ take (b .args .count) (b .args .parts) = cc in sym ta ∙ rw (i, t) tb
-  same-kind kinds.Ex ta tb e = same-none ta tb
+  same-by ofExtension ta tb e = same-none ta tb
 
   same-tag : (t : Tag) → tidyTag t a ≡ a → tidyTag t b ≡ b → beside t (a .input) (a .args) ≡ beside t (b .input) (b .args) → a ≡ b
-  same-tag (Plain k) ta tb e = same-kind k ta tb e
+  same-tag (Plain k) ta tb e = same-by (kindRow k .beside) ta tb e
   same-tag (Named k) ta tb e = same-none ta tb
   same-tag Other ta tb e = same-none ta tb
 

@@ -4,8 +4,8 @@
 use back::BackAnswer;
 use back::Board;
 use back::BoardTick;
-use item::Version;
-use item::VersionOf;
+use kinds::Version;
+use kinds::VersionOf;
 use libc::STDOUT_FILENO;
 use packer::PartRead;
 use reader::ReadAnswer;
@@ -168,7 +168,7 @@ fn run_case(input: &[u8]) {
     if input.len() == 0 {
         return;
     }
-    let VersionOf::Is(version) = item::version_of(number(input[0])) else {
+    let VersionOf::Is(version) = kinds::version_of(number(input[0])) else {
         return;
     };
     walk(version, &input[1..]);

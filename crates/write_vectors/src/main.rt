@@ -6,7 +6,7 @@ ghost use Prim.Native.Nat.{_<_};
 use fields::Args;
 use item::Item;
 use item::Record;
-use item::Version;
+use kinds::Version;
 use libc::STDOUT_FILENO;
 use packer::Part;
 use packer::PartRead;
@@ -307,14 +307,43 @@ fn versions(version: Version) {
     );
 }
 
-// The 16 bytes of row k of the identifiers; row 20 is the magic.
+const MAGIC: [u8; 16] = [
+    0x69,
+    0x9d,
+    0xb1,
+    0x7b,
+    0x8e,
+    0xfb,
+    0x34,
+    0xff,
+    0xb1,
+    0xd8,
+    0xda,
+    0x6f,
+    0x60,
+    0xc1,
+    0x5d,
+    0xd1,
+];
+
+// A byte of row k of the identifiers; row 20 is the magic.
+fn row_byte(k: usize, j: usize) -> u8
+    requires { ⌜ j < 16 ⌝ }
+{
+    if k < 20 {
+        return ids::id_byte(extensions::extension_at(k), j);
+    }
+    MAGIC[j]
+}
+
+// The 16 bytes of row k.
 fn id_row(k: usize) -> [u8; 16]
     requires { ⌜ k < 21 ⌝ }
 {
     let mut row = [0u8; 16];
     let mut j: usize = 0;
     while j < 16 {
-        row[j] = ids::table_byte(16 * k + j);
+        row[j] = row_byte(k, j);
         j += 1;
     }
     row

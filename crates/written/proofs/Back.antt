@@ -16,12 +16,15 @@ use Rattle.fields.specs.Fields.{Field, uuid, blob, Value, num, bytes, strings, 
 use Rattle.fields.specs.Writing.{AllSorted, allWritable, writeFields}
 use Rattle.fields.proofs.Answers.{and-split}
 use Rattle.fields.proofs.Back.{all-back}
-use Rattle.item.specs.Extensions.{Payload, shaped, whole, unknown, count, idAt, payloadAt, find}
-use Rattle.item.specs.Records.{content, Rest, fields, extension, restOf, ofPayload, readRest, readRecord, payloadRemarks, recordRemarks}
+use Rattle.extensions.specs.Extensions.{Payload, shaped, whole, idAt, payloadAt, find, isUnknown}
+use Rattle.extensions.specs.declared.Extension.{Extension}
+use Rattle.extensions.specs.declared.Found.{Found}
+use Rattle.extensions.specs.declared.Found.the-variants.{Known, Unknown}
+use Rattle.item.specs.Records.{content, Rest, fields, extension, restOf, ofPayload, ofFound, readRest, readRecord, payloadRemarks, foundRemarks, recordRemarks}
 use Rattle.item.specs.Contents.{ownPayload}
-use Rattle.item.specs.declared.Version.{Version}
-use Rattle.item.specs.declared.Kind.{Kind}
-use Rattle.item.specs.declared.Kind.the-variants as kinds
+use Rattle.kinds.specs.declared.Version.{Version}
+use Rattle.kinds.specs.declared.Kind.{Kind}
+use Rattle.kinds.specs.declared.Kind.the-variants as kinds
 use Rattle.item.specs.declared.Tag.{Tag}
 use Rattle.item.specs.declared.Tag.the-variants.{Plain, Named, Other}
 use Rattle.ids.proofs.Table.{id-found, id-length}
@@ -29,7 +32,6 @@ use Rattle.written.specs.Written.{kindBytes, allFields, firstBytes, seco
 use Rattle.written.specs.Laws.{meant, kindNumbers}
 use Rattle.written.proofs.KindLaws.{Allowed, ex-only, kind-back}
 use Rattle.written.proofs.Frames.{ex-split, loadAt, endAt, idPart, loadPart, Frame, framed}
-use Rattle.written.proofs.Known.{isKnown, known, none-known}
 
 -- numbers of 32 bits, identifiers of 16 bytes
 abbrev pub SortedContent : Tag → List (Value (List ℕ)) → Type 0
@@ -83,15 +85,21 @@ two-parts (num z ∷ ms) sorted = absurd (sorted .0)
 two-parts (bytes b ∷ ms) sorted = (sorted .0, ap (λ l. bytes b ∷ l) (one-part ms (sorted .1)))
 two-parts (strings bs ∷ ms) sorted = absurd (sorted .0)
 
--- what reading an extension's data says, where k and l are what the identifier is found as
-abbrev LoadReads : List ℕ → ℕ → List ℕ → List ℕ → ℕ → Payload → Tag → List (Value (List ℕ)) → Type 0
-LoadReads s at id load k l t ms =
-    (meant s (ofPayload s (idPart at id) (loadPart at id load) k l (endAt at id load)) ≡ got (content t ms) (endAt at id load))
+-- what reading an extension's data says, where x is what the identifier is found as
+abbrev LoadReads : List ℕ → ℕ → List ℕ → List ℕ → Found → Tag → List (Value (List ℕ)) → Type 0
+LoadReads s at id load x t ms =
+    (meant s (ofFound s (idPart at id) (loadPart at id load) x (endAt at id load)) ≡ got (content t ms) (endAt at id load))
+    × (foundRemarks s (loadPart at id load) x (endAt at id load) ≡ 0)
+
+-- and where l is the payload of the extension that it names
+abbrev PayloadReads : List ℕ → ℕ → List ℕ → List ℕ → Extension → Payload → List (Value (List ℕ)) → Type 0
+PayloadReads s at id load k l ms =
+    (meant s (ofPayload s (loadPart at id load) k l (endAt at id load)) ≡ got (content (Named k) ms) (endAt at id load))
     × (payloadRemarks s (loadPart at id load) l (endAt at id load) ≡ 0)
 
-module _ (s : List ℕ) (at : ℕ) (id load rest : List ℕ) (f : Frame s at id load rest) (k : ℕ) where
+module _ (s : List ℕ) (at : ℕ) (id load rest : List ℕ) (f : Frame s at id load rest) (k : Extension) where
   shaped-back : (fs : List Field) (ms : List (Value (List ℕ))) → AllSorted fs ms → allWritable fs ms ≡ true → load ≡ writeFields fs ms
-      → LoadReads s at id load k (shaped fs) (Named k) ms
+      → PayloadReads s at id load k (shaped fs) ms
   shaped-back fs ms sorted w e =
       let ws = writeFields fs ms in
       let l = loadAt at id load in
@@ -102,12 +110,11 @@ module _ (s : List ℕ) (at : ℕ) (id load rest : List ℕ) (f : Frame s at id 
       (rw (b .reads) (rw (m, b .same)), rw (b .reads) (omega (arith, b .clean)))
 
   payload-back : (l : Payload) (ms : List (Value (List ℕ))) → AllSorted (ownPayload l) ms → payloadWritable l ms ≡ true → load ≡ payloadBytes l ms
-      → LoadReads s at id load k l (Named k) ms
+      → PayloadReads s at id load k l ms
   payload-back (shaped fs) ms sorted w e = shaped-back fs ms sorted w e
   payload-back whole ms sorted w e =
       let q : bytes load ∷ [] ≡ ms = rw e (sym (one-part ms sorted)) in
       (rw (f .load-shown, q), refl)
-  payload-back unknown ms sorted w e = absurd (false≢true w)
 
 -- the place past the kind of an extension that stands at 0
 abbrev exAt : ℕ
@@ -123,7 +130,7 @@ module _ (id load after : List ℕ) where
       framed s exAt id load after (past-within s c r 0 e (omega arith)) sixteen small (past s c r 0 e)
 
   ex-back : (v : Version) → hasEx v ≡ true → Frame (exBytes id load ++ after) exAt id load after → (t : Tag) (ms : List (Value (List ℕ)))
-      → LoadReads (exBytes id load ++ after) exAt id load (find id) (payloadAt (find id)) t ms
+      → LoadReads (exBytes id load ++ after) exAt id load (find id) t ms
       → Reads v (exBytes id load ++ after) t ms (length (exBytes id load))
   unfolding readRecord readRest recordRemarks
   ex-back v ex f t ms q =
@@ -133,12 +140,11 @@ module _ (id load after : List ℕ) where
       omega (arith, length-append c [], length-append c (id ++ dataBytes load), length-append id (dataBytes load)) in
       (rw (r .reads, f .reads, n) (q .0), rw (r .reads) (omega (arith, r .clean, f .remarked, q .1)))
 
-is-known : (l : Payload) (ms : List (Value (List ℕ))) → payloadWritable l ms ≡ true → isKnown l ≡ true
-is-known (shaped fs) ms w = refl
-is-known whole ms w = refl
-is-known unknown ms w = w
+is-unknown : (x : Found) → isUnknown x ≡ true → x ≡ Unknown
+is-unknown (Known k) e = absurd (false≢true e)
+is-unknown Unknown e = refl
 
-named-back : (v : Version) (k : ℕ) (ms : List (Value (List ℕ))) → SortedContent (Named k) ms → tagWritable v (Named k) ms ≡ true → (after : List ℕ)
+named-back : (v : Version) (k : Extension) (ms : List (Value (List ℕ))) → SortedContent (Named k) ms → tagWritable v (Named k) ms ≡ true → (after : List ℕ)
     → Reads v (tagBytes (Named k) ms ++ after) (Named k) ms (length (tagBytes (Named k) ms))
 named-back v k ms sorted w after =
     let l = payloadAt k in
@@ -146,21 +152,20 @@ named-back v k ms sorted w after =
     let load = payloadBytes l ms in
     let o = and-split (hasEx v) (payloadWritable l ms && isData load) w in
     let p = and-split (payloadWritable l ms) (isData load) (o .1) in
-    let h = ltb-true k count (sym (known k) ∙ is-known l ms (p .0)) in
-    let f = ex-frame id load after (id-length k h) (p .1) in
-    ex-back id load after v (o .0) f (Named k) ms (rw (id-found k h) (payload-back (exBytes id load ++ after) exAt id load after f k l ms sorted (p .0) refl))
+    let f = ex-frame id load after (id-length k) (p .1) in
+    ex-back id load after v (o .0) f (Named k) ms (rw (id-found k) (payload-back (exBytes id load ++ after) exAt id load after f k l ms sorted (p .0) refl))
 
 other-back : (v : Version) (ms : List (Value (List ℕ))) → SortedContent Other ms → tagWritable v Other ms ≡ true → (after : List ℕ)
     → Reads v (tagBytes Other ms ++ after) Other ms (length (tagBytes Other ms))
 other-back v ms sorted w after =
     let id = firstBytes ms in
     let load = secondBytes ms in
-    let o = and-split (hasEx v) (eqb (find id) count && isData load) w in
-    let p = and-split (eqb (find id) count) (isData load) (o .1) in
+    let o = and-split (hasEx v) (isUnknown (find id) && isData load) w in
+    let p = and-split (isUnknown (find id)) (isData load) (o .1) in
     let t = two-parts ms sorted in
-    let n = eqb-true (find id) count (p .0) in
+    let n = is-unknown (find id) (p .0) in
     let f = ex-frame id load after (t .0) (p .1) in
-    ex-back id load after v (o .0) f Other ms (rw (n, none-known, f .id-shown, f .load-shown, ← t .1) (refl, refl))
+    ex-back id load after v (o .0) f Other ms (rw (n, f .id-shown, f .load-shown, ← t .1) (refl, refl))
 
 pub tag-back : (v : Version) (t : Tag) (ms : List (Value (List ℕ))) → SortedContent t ms → tagWritable v t ms ≡ true → (after : List ℕ)
     → Reads v (tagBytes t ms ++ after) t ms (length (tagBytes t ms))

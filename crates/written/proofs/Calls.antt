@@ -8,7 +8,7 @@ use Rattle.fields.specs.Fields.{Reading, got, runsOut, refused}
 use Rattle.fields.specs.Laws.{isOut}
 use Rattle.item.specs.Said.{gives, more}
 use Rattle.item.specs.Records.{Content, readRecord, recordSaid, recordCall}
-use Rattle.item.specs.declared.Version.{Version}
+use Rattle.kinds.specs.declared.Version.{Version}
 use Rattle.written.specs.Laws.{CallIs}
 use Rattle.written.proofs.Steady.{record-stays}
 

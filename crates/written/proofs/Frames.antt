@@ -19,9 +19,9 @@ use Rattle.packer.proofs.Reading.{shown-in}
 use Rattle.packer.proofs.Texts.{lead}
 use Rattle.fields.specs.Fields.{Field, Value, got, readFields, mean}
 use Rattle.fields.proofs.AllTaken.{fields-taken}
-use Rattle.item.specs.Extensions.{find, payloadAt}
-use Rattle.item.specs.Records.{ofPayload, readEx, payloadRemarks, exRemarks}
-use Rattle.item.specs.declared.Kind.the-variants as kinds
+use Rattle.extensions.specs.Extensions.{find}
+use Rattle.item.specs.Records.{ofFound, readEx, foundRemarks, exRemarks}
+use Rattle.kinds.specs.declared.Kind.the-variants as kinds
 use Rattle.written.specs.Written.{kindBytes, exBytes}
 
 -- the bytes of an extension and what follows: its kind, then these
@@ -55,8 +55,8 @@ pub record Frame (s : List ℕ) (at : ℕ) (id load rest : List ℕ) : Type 0 wh
   pub id-shown : shown s (idPart at id) ≡ id
   pub load-shown : shown s (loadPart at id load) ≡ load
   -- what reading says of them
-  pub reads : readEx s at ≡ ofPayload s (idPart at id) (loadPart at id load) (find id) (payloadAt (find id)) (endAt at id load)
-  pub remarked : exRemarks s at ≡ payloadRemarks s (loadPart at id load) (payloadAt (find id)) (endAt at id load)
+  pub reads : readEx s at ≡ ofFound s (idPart at id) (loadPart at id load) (find id) (endAt at id load)
+  pub remarked : exRemarks s at ≡ foundRemarks s (loadPart at id load) (find id) (endAt at id load)
   -- the window that ends with the data; fields that were read in it mean the same in the whole one
   pub inner : length (take (endAt at id load) s) ≡ endAt at id load
   pub load-starts : loadAt at id load ≤ length (take (endAt at id load) s)
@@ -91,11 +91,11 @@ module _ (s : List ℕ) (at : ℕ) (id load rest : List ℕ) (starts : at ≤ le
   data-read : readData s (at + length id) ≡ Got (loadPart at id load) (endAt at id load)
   data-read = data-at s load rest (at + length id) small data-stands data-starts
 
-  reads : readEx s at ≡ ofPayload s (idPart at id) (loadPart at id load) (find id) (payloadAt (find id)) (endAt at id load)
+  reads : readEx s at ≡ ofFound s (idPart at id) (loadPart at id load) (find id) (endAt at id load)
   unfolding readEx
   reads = rw (id-read, data-read, id-shown)
 
-  remarked : exRemarks s at ≡ payloadRemarks s (loadPart at id load) (payloadAt (find id)) (endAt at id load)
+  remarked : exRemarks s at ≡ foundRemarks s (loadPart at id load) (find id) (endAt at id load)
   unfolding exRemarks
   remarked = rw (id-read, data-read, length-at s load rest (at + length id) small data-stands, zero-add, id-shown)
 

@@ -24,13 +24,13 @@ use Rattle.fields.specs.Fields.{int, num, got, refused}
 use Rattle.fields.specs.Remarks.{remarkIn}
 use Rattle.fields.proofs.Answers.{not-out, not-refused, same-got}
 use Rattle.fields.proofs.Taken.{field-taken}
-use Rattle.item.specs.Kinds as item
-use Rattle.item.specs.Kinds.{withClient, kindOf, afterNumber, readKind, kindNumber}
+use Rattle.kinds.specs.Kinds as item
+use Rattle.kinds.specs.Kinds.{withClient, kindOf, afterNumber, readKind, kindNumber}
 use Rattle.item.specs.Records.{Rest, fields, extension, restOf, clientRemark}
-use Rattle.item.specs.declared.Version.{Version}
-use Rattle.item.specs.declared.Version.the-variants.{V1, V2}
-use Rattle.item.specs.declared.Kind.{Kind}
-use Rattle.item.specs.declared.Kind.the-variants as kinds
+use Rattle.kinds.specs.declared.Version.{Version}
+use Rattle.kinds.specs.declared.Version.the-variants.{V1, V2}
+use Rattle.kinds.specs.declared.Kind.{Kind}
+use Rattle.kinds.specs.declared.Kind.the-variants as kinds
 use Rattle.written.specs.Written.{clientBytes, kindBytes, hasEx, kindWritable}
 use Rattle.written.specs.Laws.{kindNumbers}
 

@@ -2,7 +2,6 @@ pub mod Back
 pub mod Calls
 pub mod Frames
 pub mod KindLaws
-pub mod Known
 pub mod Rewritten
 pub mod Steady
 pub mod Theorems

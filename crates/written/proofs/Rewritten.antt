@@ -16,9 +16,9 @@ use Rattle.fields.specs.Writing.{allNoZero, writable, allWritable, partsInside}
 use Rattle.fields.proofs.Answers.{and-both, and-split}
 use Rattle.item.specs.Records.{meaning, readRecord, recordRemarks}
 use Rattle.item.specs.Contents.{itemOf, ownFields, beside, recordOf, tidyKind, tidyTag, tidyRecord}
-use Rattle.item.specs.declared.Version.{Version}
-use Rattle.item.specs.declared.Kind.{Kind}
-use Rattle.item.specs.declared.Kind.the-variants as kinds
+use Rattle.kinds.specs.declared.Version.{Version}
+use Rattle.kinds.specs.declared.Kind.{Kind}
+use Rattle.kinds.specs.declared.Kind.the-variants as kinds
 use Rattle.item.specs.declared.Tag.{Tag}
 use Rattle.item.specs.declared.Tag.the-variants.{Plain, Named, Other}
 use Rattle.item.specs.declared.Record.{Record}

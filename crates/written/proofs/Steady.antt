@@ -19,11 +19,14 @@ use Rattle.packer.proofs.Parts.{raw-taken, data-taken}
 use Rattle.fields.specs.Fields.{Value, Reading, got, runsOut, refused, readFields}
 use Rattle.fields.specs.Laws.{isOut}
 use Rattle.fields.proofs.Steady.{int-had, all-steady}
-use Rattle.item.specs.Kinds.{withClient, kindOf, afterNumber, readKind}
-use Rattle.item.specs.Extensions.{Payload, shaped, whole, unknown, find, payloadAt}
-use Rattle.item.specs.Records.{Rest, fields, extension, restOf, asContent, ofPayload, afterData, afterId, readEx, readAs, readRest, afterKind, readRecord}
-use Rattle.item.specs.declared.Version.{Version}
-use Rattle.item.specs.declared.Kind.{Kind}
+use Rattle.kinds.specs.Kinds.{withClient, kindOf, afterNumber, readKind}
+use Rattle.extensions.specs.Extensions.{Payload, shaped, whole, find, payloadAt}
+use Rattle.extensions.specs.declared.Extension.{Extension}
+use Rattle.extensions.specs.declared.Found.{Found}
+use Rattle.extensions.specs.declared.Found.the-variants.{Known, Unknown}
+use Rattle.item.specs.Records.{Rest, fields, extension, restOf, asContent, ofPayload, ofFound, afterData, afterId, readEx, readAs, readRest, afterKind, readRecord}
+use Rattle.kinds.specs.declared.Version.{Version}
+use Rattle.kinds.specs.declared.Kind.{Kind}
 use Rattle.item.specs.declared.Tag.{Tag}
 use Rattle.item.specs.declared.Tag.the-variants.{Plain}
 use Rattle.written.proofs.KindLaws.{Sort, alone, player, none, sort-of}
@@ -48,17 +51,19 @@ kind-steady v s t at e =
 
 -- ---- an extension
 
-payload-steady : (s t : List ℕ) (id p : Part) (k : ℕ) (l : Payload) (n : ℕ) → n ≤ length s → ofPayload (s ++ t) id p k l n ≡ ofPayload s id p k l n
-payload-steady s t id p k (shaped fs) n h = rw (take-append-le n s t h)
-payload-steady s t id p k whole n h = refl
-payload-steady s t id p k unknown n h = refl
+payload-steady : (s t : List ℕ) (p : Part) (k : Extension) (l : Payload) (n : ℕ) → n ≤ length s → ofPayload (s ++ t) p k l n ≡ ofPayload s p k l n
+payload-steady s t p k (shaped fs) n h = rw (take-append-le n s t h)
+payload-steady s t p k whole n h = refl
+
+found-steady : (s t : List ℕ) (id p : Part) (f : Found) (n : ℕ) → n ≤ length s → ofFound (s ++ t) id p f n ≡ ofFound s id p f n
+found-steady s t id p (Known k) n h = payload-steady s t p k (payloadAt k) n h
+found-steady s t id p Unknown n h = refl
 
 data-steady : (s t : List ℕ) (id : Part) (n : ℕ) → shown (s ++ t) id ≡ shown s id → (x : PartRead) → readData s n ≡ x → isOut (afterData s id x) ≡ false
     → afterData (s ++ t) id (readData (s ++ t) n) ≡ afterData s id x
 data-steady s t id n same (parts.Got p m) x e =
     let d = data-taken s n m p x in
-    let k = find (shown s id) in
-    rw (d .steady t, same) (payload-steady s t id p k (payloadAt k) m (d .within))
+    rw (d .steady t, same) (found-steady s t id p (find (shown s id)) m (d .within))
 data-steady s t id n same parts.RunsOut x e = absurd (false≢true (sym e))
 
 id-steady : (s t : List ℕ) (at : ℕ) (x : PartRead) → readRaw 16 s at ≡ x → isOut (afterId s x) ≡ false

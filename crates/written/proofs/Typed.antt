@@ -13,7 +13,7 @@ use Rattle.fields.specs.Writing.{Sorted, AllSorted, valueInside, partsInside}
 use Rattle.fields.proofs.Answers.{and-split}
 use Rattle.item.specs.declared.Tag.{Tag}
 use Rattle.item.specs.declared.Tag.the-variants.{Plain, Named, Other}
-use Rattle.item.specs.Extensions.{payloadAt}
+use Rattle.extensions.specs.Extensions.{payloadAt}
 use Rattle.item.specs.Records.{restOf}
 use Rattle.item.specs.Contents.{ownPayload}
 use Rattle.written.specs.Written.{allFields}

@@ -19,9 +19,11 @@ use Rattle.fields.specs.Views.{tenFields}
 use Rattle.fields.specs.Writing.{allNoZero, allWritable, inside, allInside, partsInside}
 use Rattle.fields.specs.declared.Args.{Args}
 use Rattle.shapes.specs.Shapes.{idPart}
-use Rattle.item.specs.Extensions.{count, extensions, payloadAt, find}
+use Rattle.extensions.specs.Extensions.{extensionRow, payloadAt, find, isUnknown}
+use Rattle.extensions.specs.declared.Extension.{Extension}
+use Rattle.extensions.specs.declared.Extension.the-variants as extensions
 use Rattle.item.specs.Contents.{recordWith}
-use Rattle.item.specs.declared.Version.{Version}
+use Rattle.kinds.specs.declared.Version.{Version}
 use Rattle.item.specs.declared.Item.{Item}
 use Rattle.item.specs.declared.Item.the-variants as items
 use Rattle.item.specs.declared.Record.{Record}
@@ -112,7 +114,7 @@ module _ (v : Version) (s : List ℕ) (ten : List ℤ) (xs : Args) where
   abbrev Same : Item → Type 0
   Same i = recordWritable v s (recordWith i ten xs) ≡ hasForm v s (recordWith i ten xs)
 
-  abbrev loadIs : ℕ → Item → Bool
+  abbrev loadIs : Extension → Item → Bool
   loadIs k i = isData (payloadBytes (payloadAt k) (valuesOf s (recordWith i ten xs)))
 
   abbrev within : Part → Bool
@@ -136,11 +138,11 @@ module _ (v : Version) (s : List ℕ) (ten : List ℤ) (xs : Args) where
   drop-form cid reason = drop (within reason) (clean reason)
 
   auth-form : (cid level : ℤ) (identity : Part) → Same (items.AuthInit cid level identity)
-  unfolding recordWritable hasForm contentWritable extensions payloadAt
-  auth-form cid level identity = text (within identity) (hasEx v) (clean identity) (loadIs 1 (items.AuthInit cid level identity))
+  unfolding recordWritable hasForm contentWritable extensionRow payloadAt
+  auth-form cid level identity = text (within identity) (hasEx v) (clean identity) (loadIs extensions.AuthInit (items.AuthInit cid level identity))
 
   form : (i : Item) → Same i
-  unfolding recordWritable hasForm contentWritable extensions payloadAt
+  unfolding recordWritable hasForm contentWritable extensionRow payloadAt
   form (items.PlayerDiff cid dx dy) = one (nonNeg cid)
   form items.Finish = refl
   form (items.TickSkip ticks) = one (leb ticks 2147483647)
@@ -157,29 +159,29 @@ module _ (v : Version) (s : List ℕ) (ten : List ℤ) (xs : Args) where
       (few-args (xs .count) (shown s) (xs .parts))
   form (items.Antibot load) = all-data (within load) (hasEx v) (isData (shown s load))
   form (items.AuthInit cid level identity) = auth-form cid level identity
-  form (items.AuthLogin cid level identity) = text (within identity) (hasEx v) (clean identity) (loadIs 2 (items.AuthLogin cid level identity))
-  form (items.AuthLogout cid) = ints (hasEx v) (loadIs 3 (items.AuthLogout cid))
+  form (items.AuthLogin cid level identity) = text (within identity) (hasEx v) (clean identity) (loadIs extensions.AuthLogin (items.AuthLogin cid level identity))
+  form (items.AuthLogout cid) = ints (hasEx v) (loadIs extensions.AuthLogout (items.AuthLogout cid))
   form (items.Ddnetver cid id version name) =
-      id-text (within (idPart id)) (within name) (hasEx v) (clean name) (loadIs 4 (items.Ddnetver cid id version name))
-  form (items.DdnetverOld cid version) = ints (hasEx v) (loadIs 5 (items.DdnetverOld cid version))
-  form (items.Joinver6 cid) = ints (hasEx v) (loadIs 6 (items.Joinver6 cid))
-  form (items.Joinver7 cid) = ints (hasEx v) (loadIs 7 (items.Joinver7 cid))
-  form (items.PlayerFinish cid time) = ints (hasEx v) (loadIs 8 (items.PlayerFinish cid time))
-  form (items.PlayerName cid name) = text (within name) (hasEx v) (clean name) (loadIs 9 (items.PlayerName cid name))
-  form (items.PlayerReady cid) = ints (hasEx v) (loadIs 10 (items.PlayerReady cid))
-  form (items.PlayerRejoin cid) = ints (hasEx v) (loadIs 11 (items.PlayerRejoin cid))
-  form (items.PlayerSwap cid1 cid2) = ints (hasEx v) (loadIs 12 (items.PlayerSwap cid1 cid2))
-  form (items.PlayerTeam cid team) = ints (hasEx v) (loadIs 13 (items.PlayerTeam cid team))
-  form (items.TeamFinish team time) = ints (hasEx v) (loadIs 14 (items.TeamFinish team time))
-  form (items.TeamLoadFailure team) = ints (hasEx v) (loadIs 15 (items.TeamLoadFailure team))
+      id-text (within (idPart id)) (within name) (hasEx v) (clean name) (loadIs extensions.Ddnetver (items.Ddnetver cid id version name))
+  form (items.DdnetverOld cid version) = ints (hasEx v) (loadIs extensions.DdnetverOld (items.DdnetverOld cid version))
+  form (items.Joinver6 cid) = ints (hasEx v) (loadIs extensions.Joinver6 (items.Joinver6 cid))
+  form (items.Joinver7 cid) = ints (hasEx v) (loadIs extensions.Joinver7 (items.Joinver7 cid))
+  form (items.PlayerFinish cid time) = ints (hasEx v) (loadIs extensions.PlayerFinish (items.PlayerFinish cid time))
+  form (items.PlayerName cid name) = text (within name) (hasEx v) (clean name) (loadIs extensions.PlayerName (items.PlayerName cid name))
+  form (items.PlayerReady cid) = ints (hasEx v) (loadIs extensions.PlayerReady (items.PlayerReady cid))
+  form (items.PlayerRejoin cid) = ints (hasEx v) (loadIs extensions.PlayerRejoin (items.PlayerRejoin cid))
+  form (items.PlayerSwap cid1 cid2) = ints (hasEx v) (loadIs extensions.PlayerSwap (items.PlayerSwap cid1 cid2))
+  form (items.PlayerTeam cid team) = ints (hasEx v) (loadIs extensions.PlayerTeam (items.PlayerTeam cid team))
+  form (items.TeamFinish team time) = ints (hasEx v) (loadIs extensions.TeamFinish (items.TeamFinish team time))
+  form (items.TeamLoadFailure team) = ints (hasEx v) (loadIs extensions.TeamLoadFailure (items.TeamLoadFailure team))
   form (items.TeamLoadSuccess team id save) =
-      id-text (within (idPart id)) (within save) (hasEx v) (clean save) (loadIs 16 (items.TeamLoadSuccess team id save))
-  form (items.TeamPractice team practice) = ints (hasEx v) (loadIs 17 (items.TeamPractice team practice))
-  form (items.TeamSaveFailure team) = ints (hasEx v) (loadIs 18 (items.TeamSaveFailure team))
+      id-text (within (idPart id)) (within save) (hasEx v) (clean save) (loadIs extensions.TeamLoadSuccess (items.TeamLoadSuccess team id save))
+  form (items.TeamPractice team practice) = ints (hasEx v) (loadIs extensions.TeamPractice (items.TeamPractice team practice))
+  form (items.TeamSaveFailure team) = ints (hasEx v) (loadIs extensions.TeamSaveFailure (items.TeamSaveFailure team))
   form (items.TeamSaveSuccess team id save) =
-      id-text (within (idPart id)) (within save) (hasEx v) (clean save) (loadIs 19 (items.TeamSaveSuccess team id save))
+      id-text (within (idPart id)) (within save) (hasEx v) (clean save) (loadIs extensions.TeamSaveSuccess (items.TeamSaveSuccess team id save))
   form (items.UnknownEx id load) =
-      other (within (idPart id)) (within load) (hasEx v) (eqb (find (shown s (idPart id))) count) (isData (shown s load))
+      other (within (idPart id)) (within load) (hasEx v) (isUnknown (find (shown s (idPart id)))) (isData (shown s load))
 
 pub writable-is-form : (v : Version) (s : List ℕ) (r : Record) → recordWritable v s r ≡ hasForm v s r
 writable-is-form v s r = form v s (r .input) (r .args) (r .item)

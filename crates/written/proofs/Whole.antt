@@ -20,20 +20,22 @@ use Rattle.fields.specs.Writing.{allWritable, writeFields, inside, partsInside}
 use Rattle.fields.proofs.Answers.{not-out, not-refused, same-got, and-both}
 use Rattle.fields.proofs.Taken.{field-taken}
 use Rattle.fields.proofs.AllTaken.{fields-taken}
-use Rattle.item.specs.Kinds.{readKind}
-use Rattle.item.specs.Extensions.{Payload, shaped, whole, unknown, count, payloadAt, find}
-use Rattle.item.specs.Records.{Content, content, Rest, fields, extension, restOf, asContent, upTo, ofPayload, afterData, afterId, readEx, readAs, readRest, afterKind, readRecord, payloadRemarks, dataRemarks, idRemarks, exRemarks, restRemarks, remarksAfter, recordRemarks}
-use Rattle.item.specs.declared.Version.{Version}
-use Rattle.item.specs.declared.Kind.{Kind}
-use Rattle.item.specs.declared.Kind.the-variants as kinds
+use Rattle.kinds.specs.Kinds.{readKind}
+use Rattle.extensions.specs.Extensions.{Payload, shaped, whole, payloadAt, find}
+use Rattle.extensions.specs.declared.Extension.{Extension}
+use Rattle.extensions.specs.declared.Found.{Found}
+use Rattle.extensions.specs.declared.Found.the-variants.{Known, Unknown}
+use Rattle.item.specs.Records.{Content, content, Rest, fields, extension, restOf, asContent, upTo, ofPayload, ofFound, afterData, afterId, readEx, readAs, readRest, afterKind, readRecord, payloadRemarks, foundRemarks, dataRemarks, idRemarks, exRemarks, restRemarks, remarksAfter, recordRemarks}
+use Rattle.kinds.specs.declared.Version.{Version}
+use Rattle.kinds.specs.declared.Kind.{Kind}
+use Rattle.kinds.specs.declared.Kind.the-variants as kinds
 use Rattle.item.specs.declared.Tag.the-variants.{Plain, Named, Other}
-use Rattle.ids.proofs.Find.{found-is, found-le}
+use Rattle.ids.proofs.Find.{found-is}
 use Rattle.written.specs.Written.{kindBytes, payloadBytes, exBytes, writeContent, hasEx, kindWritable, payloadWritable, contentWritable}
 use Rattle.written.specs.Laws.{Same}
 use Rattle.written.proofs.Windows.{front, bytes-take, values-inside}
 use Rattle.written.proofs.KindLaws.{KindTaken, ex-only, kind-taken}
 use Rattle.written.proofs.Frames.{ex-split, loadAt, endAt, idPart, loadPart, Frame, framed}
-use Rattle.written.proofs.Known.{isKnown, known}
 
 -- ---- kinds other than the extension's
 
@@ -66,38 +68,53 @@ module _ (v : Version) (ex : hasEx v ≡ true) (s : List ℕ) (b : Bytes s) (at 
       ∙ sym (ex-split id load rest)
       ∙ ap (λ l. exBytes id load ++ l) (sym (f .after)))
 
-  named-same : (l : Payload) → payloadAt (find id) ≡ l → isKnown l ≡ true → (vs : List (Value Part)) → partsInside s vs ≡ true
-      → payloadWritable l (map (mean s) vs) ≡ true → payloadBytes l (map (mean s) vs) ≡ load → Same v s (content (Named (find id)) vs) (endAt at id load)
-  unfolding writeContent contentWritable
-  named-same l e ok vs i w q =
-      let j = found-is id (ltb-true (find id) count (sym (known (find id)) ∙ ap isKnown e ∙ ok)) in
-      record {
-        within = f .within;
-        inside = i;
-        writable = rw (e, ex, w, q) (f .small);
-        same = rw (j, e, q) ex-same;
-      }
+  module _ (e : Extension) (known : find id ≡ Known e) where
+    named-same : (l : Payload) → payloadAt e ≡ l → (vs : List (Value Part)) → partsInside s vs ≡ true
+        → payloadWritable l (map (mean s) vs) ≡ true → payloadBytes l (map (mean s) vs) ≡ load → Same v s (content (Named e) vs) (endAt at id load)
+    unfolding writeContent contentWritable
+    named-same l q vs i w p =
+        let j = found-is id e known in
+        record {
+          within = f .within;
+          inside = i;
+          writable = rw (q, ex, w, p) (f .small);
+          same = rw (j, q, p) ex-same;
+        }
 
-  whole-same : payloadAt (find id) ≡ whole → Same v s (content (Named (find id)) (bytes (loadPart at id load) ∷ [])) (endAt at id load)
-  whole-same e =
-      let i : inside s (loadPart at id load) ≡ true = le-leb (loadAt at id load + length load) (length s) (omega (arith, f .ends, f .within)) in
-      named-same whole e refl (bytes (loadPart at id load) ∷ []) (rw i) refl (f .load-shown)
+    whole-same : payloadAt e ≡ whole → Same v s (content (Named e) (bytes (loadPart at id load) ∷ [])) (endAt at id load)
+    whole-same q =
+        let i : inside s (loadPart at id load) ≡ true = le-leb (loadAt at id load + length load) (length s) (omega (arith, f .ends, f .within)) in
+        named-same whole q (bytes (loadPart at id load) ∷ []) (rw i) refl (f .load-shown)
 
-  shaped-same : (fs : List Field) → payloadAt (find id) ≡ shaped fs → (vs : List (Value Part)) (m : ℕ)
-      → readFields fs (take (endAt at id load) s) (loadAt at id load) ≡ got vs m
-      → remarks fs (take (endAt at id load) s) (loadAt at id load) + (endAt at id load - m) ≡ 0
-      → Same v s (content (Named (find id)) vs) (endAt at id load)
-  shaped-same fs e vs m x r =
-      let i = take (endAt at id load) s in
-      let t = fields-taken fs i (loadAt at id load) (f .load-starts) vs m x in
-      let y = f .same-meaning fs vs m x in
-      let ws = writeFields fs (map (mean i) vs) in
-      let z : m ≡ length i = omega (arith, t .within, f .inner) in
-      let w : load ≡ ws =
-      sym (f .load-stands) ∙ t .whole (bytes-take s (endAt at id load) (f .within) b) (omega arith) ∙ rw (z, drop-length i, append-nil ws) in
-      named-same (shaped fs) e refl vs (values-inside i s (omega (arith, f .inner, f .within)) vs (t .inner)) (rw y (t .written)) (rw y (sym w))
+    shaped-same : (fs : List Field) → payloadAt e ≡ shaped fs → (vs : List (Value Part)) (m : ℕ)
+        → readFields fs (take (endAt at id load) s) (loadAt at id load) ≡ got vs m
+        → remarks fs (take (endAt at id load) s) (loadAt at id load) + (endAt at id load - m) ≡ 0
+        → Same v s (content (Named e) vs) (endAt at id load)
+    shaped-same fs q vs m x r =
+        let i = take (endAt at id load) s in
+        let t = fields-taken fs i (loadAt at id load) (f .load-starts) vs m x in
+        let y = f .same-meaning fs vs m x in
+        let ws = writeFields fs (map (mean i) vs) in
+        let z : m ≡ length i = omega (arith, t .within, f .inner) in
+        let w : load ≡ ws =
+        sym (f .load-stands) ∙ t .whole (bytes-take s (endAt at id load) (f .within) b) (omega arith) ∙ rw (z, drop-length i, append-nil ws) in
+        named-same (shaped fs) q vs (values-inside i s (omega (arith, f .inner, f .within)) vs (t .inner)) (rw y (t .written)) (rw y (sym w))
 
-  other-same : find id ≡ count → Same v s (content Other (bytes (idPart at id) ∷ bytes (loadPart at id load) ∷ [])) (endAt at id load)
+    fields-by : (fs : List Field) → payloadAt e ≡ shaped fs → (x : Reading (List (Value Part)))
+        → readFields fs (take (endAt at id load) s) (loadAt at id load) ≡ x → (c : Content Part) (next : ℕ)
+        → upTo (endAt at id load) (asContent (Named e) x) ≡ got c next
+        → payloadRemarks s (loadPart at id load) (shaped fs) (endAt at id load) ≡ 0 → Same v s c next
+    fields-by fs q (got vs m) x c next g r = same-got (Same v s) g (shaped-same fs q vs m x (rw x at r))
+    fields-by fs q runsOut x c next g r = not-out g
+    fields-by fs q (refused y) x c next g r = not-refused g
+
+    payload-same : (l : Payload) → payloadAt e ≡ l → (c : Content Part) (next : ℕ)
+        → ofPayload s (loadPart at id load) e l (endAt at id load) ≡ got c next
+        → payloadRemarks s (loadPart at id load) l (endAt at id load) ≡ 0 → Same v s c next
+    payload-same (shaped fs) q c next g r = fields-by fs q (readFields fs (take (endAt at id load) s) (loadAt at id load)) refl c next g r
+    payload-same whole q c next g r = same-got (Same v s) g (whole-same q)
+
+  other-same : find id ≡ Unknown → Same v s (content Other (bytes (idPart at id) ∷ bytes (loadPart at id load) ∷ [])) (endAt at id load)
   unfolding writeContent contentWritable
   other-same n =
       let i : inside s (idPart at id) ≡ true = le-leb (at + length id) (length s) (omega (arith, f .within)) in
@@ -105,28 +122,15 @@ module _ (v : Version) (ex : hasEx v ≡ true) (s : List ℕ) (b : Bytes s) (at 
       record {
         within = f .within;
         inside = rw (i, l);
-        writable = rw (ex, f .id-shown, f .load-shown, eq-eqb (find id) count n) (f .small);
+        writable = rw (ex, f .id-shown, f .load-shown, n) (f .small);
         same = rw (f .id-shown, f .load-shown) ex-same;
       }
 
-  fields-by : (fs : List Field) → payloadAt (find id) ≡ shaped fs → (x : Reading (List (Value Part)))
-      → readFields fs (take (endAt at id load) s) (loadAt at id load) ≡ x → (c : Content Part) (next : ℕ)
-      → upTo (endAt at id load) (asContent (Named (find id)) x) ≡ got c next
-      → payloadRemarks s (loadPart at id load) (shaped fs) (endAt at id load) ≡ 0 → Same v s c next
-  fields-by fs e (got vs m) x c next g r =
-      same-got (Same v s) g (shaped-same fs e vs m x (rw x at r))
-  fields-by fs e runsOut x c next g r = not-out g
-  fields-by fs e (refused q) x c next g r = not-refused g
-
-  payload-same : (l : Payload) → payloadAt (find id) ≡ l → (c : Content Part) (next : ℕ)
-      → ofPayload s (idPart at id) (loadPart at id load) (find id) l (endAt at id load) ≡ got c next
-      → payloadRemarks s (loadPart at id load) l (endAt at id load) ≡ 0 → Same v s c next
-  payload-same (shaped fs) e c next g r = fields-by fs e (readFields fs (take (endAt at id load) s) (loadAt at id load)) refl c next g r
-  payload-same whole e c next g r =
-      same-got (Same v s) g (whole-same e)
-  payload-same unknown e c next g r =
-      let h = ltb-false (find id) count (sym (known (find id)) ∙ ap isKnown e) in
-      same-got (Same v s) g (other-same (omega (arith, h, found-le id)))
+  found-same : (x : Found) → find id ≡ x → (c : Content Part) (next : ℕ)
+      → ofFound s (idPart at id) (loadPart at id load) x (endAt at id load) ≡ got c next
+      → foundRemarks s (loadPart at id load) x (endAt at id load) ≡ 0 → Same v s c next
+  found-same (Known e) q c next g r = payload-same e q (payloadAt e) refl c next g r
+  found-same Unknown q c next g r = same-got (Same v s) g (other-same q)
 
 -- an extension that was read without a remark on its length
 record Framed (s : List ℕ) (at : ℕ) : Type 0 where
@@ -176,7 +180,7 @@ module _ (v : Version) (s : List ℕ) (b : Bytes s) (k : Kind) (n : ℕ) (taken 
       let ex : hasEx v ≡ true = rw e at (taken .allowed) in
       let i = ex-framed s b n (taken .within) c next g r in
       let f = i .frame in
-      payload-same v ex s b n (rw (ex-only k e) at start) (i .id) (i .load) (i .rest) f (payloadAt (find (i .id))) refl c next
+      found-same v ex s b n (rw (ex-only k e) at start) (i .id) (i .load) (i .rest) f (find (i .id)) refl c next
       (sym (f .reads) ∙ g) (sym (f .remarked) ∙ r)
 
 kind-same : (v : Version) (s : List ℕ) → Bytes s → (c : Content Part) (next : ℕ) (x : Reading Kind) → readKind v s 0 ≡ x

@@ -12,12 +12,12 @@ use Rattle.fields.specs.Fields.{Field, int, dt, mask, str, uuid, blob, args, Va
 use Rattle.fields.specs.Writing.{natural32, partsInside}
 use Rattle.fields.specs.Laws.{isOut}
 use Rattle.item.specs.Said.{gives, more}
-use Rattle.item.specs.Extensions.{payloadAt}
+use Rattle.extensions.specs.Extensions.{payloadAt}
 use Rattle.item.specs.Records.{Content, meaning, restOf, readRecord, recordCall, recordRemarks}
 use Rattle.item.specs.Contents.{recordOf, tidyRecord, ownPayload}
-use Rattle.item.specs.declared.Version.{Version}
-use Rattle.item.specs.declared.Kind.{Kind}
-use Rattle.item.specs.declared.Kind.the-variants as kinds
+use Rattle.kinds.specs.declared.Version.{Version}
+use Rattle.kinds.specs.Kinds.{Client, nowhere, isNumber, following, first, kindRow}
+use Rattle.kinds.specs.declared.Kind.{Kind}
 use Rattle.item.specs.declared.Tag.{Tag}
 use Rattle.item.specs.declared.Tag.the-variants.{Plain, Named, Other}
 use Rattle.item.specs.declared.Record.{Record}
@@ -60,19 +60,15 @@ AllTyped [] (v ∷ vs) = ⊥
 AllTyped (f ∷ fs) [] = ⊥
 AllTyped (f ∷ fs) (v ∷ vs) = Typed f v × AllTyped fs vs
 
+-- a client that belongs to the kind has 32 bits
+abbrev pub ClientFits : Client → Type 0
+ClientFits nowhere = Unit
+ClientFits (isNumber c) = SFits w32 c
+ClientFits (following c) = SFits w32 c
+ClientFits first = Unit
+
 abbrev pub kindNumbers : Kind → Type 0
-kindNumbers (kinds.PlayerDiff c) = SFits w32 c
-kindNumbers kinds.Finish = Unit
-kindNumbers kinds.TickSkip = Unit
-kindNumbers (kinds.PlayerNew c) = SFits w32 c
-kindNumbers (kinds.PlayerOld c) = SFits w32 c
-kindNumbers kinds.InputDiff = Unit
-kindNumbers kinds.InputNew = Unit
-kindNumbers kinds.Message = Unit
-kindNumbers kinds.Join = Unit
-kindNumbers kinds.Drop = Unit
-kindNumbers kinds.ConsoleCommand = Unit
-kindNumbers kinds.Ex = Unit
+kindNumbers k = ClientFits (kindRow k .client)
 
 abbrev pub TypedContent : Tag → List (Value Part) → Type 0
 TypedContent (Plain k) vs = kindNumbers k × AllTyped (allFields (restOf k)) vs

@@ -3,7 +3,7 @@ use Prim.Native.Nat.{ℕ}
 use mathlib.Core.Path.{_≡_}
 use mathlib.Core.Bool.{Bool, true, false, not, _&&_, _||_}
 use mathlib.Core.List.{List, [], _∷_, map}
-use lib.Dec.{leb, eqb}
+use lib.Dec.{leb}
 use lib.Signed.{nonNeg}
 use Rattle.refusal.specs.Said.{Said}
 use Rattle.varint.specs.Written.{writtenIf, wroteSaid, writing}
@@ -11,12 +11,11 @@ use Rattle.varint.specs.declared.Wrote.{Wrote}
 use Rattle.packer.specs.Texts.{noZero, isData}
 use Rattle.fields.specs.Fields.{Field, int, dt, mask, str, uuid, blob, args, Value, num, bytes, strings, mean}
 use Rattle.fields.specs.Writing.{allNoZero, smallDt, partsInside}
-use Rattle.item.specs.Extensions.{count, payloadAt, find}
+use Rattle.extensions.specs.Extensions.{payloadAt, find, isUnknown}
 use Rattle.item.specs.Records.{restOf}
 use Rattle.item.specs.Contents.{ownPayload, recordOf}
-use Rattle.item.specs.declared.Version.{Version}
-use Rattle.item.specs.declared.Kind.{Kind}
-use Rattle.item.specs.declared.Kind.the-variants as kinds
+use Rattle.kinds.specs.declared.Version.{Version}
+use Rattle.kinds.specs.Kinds.{Client, nowhere, isNumber, following, first, kindRow}
 use Rattle.item.specs.declared.Tag.{Tag}
 use Rattle.item.specs.declared.Tag.the-variants.{Plain, Named, Other}
 use Rattle.item.specs.declared.Record.{Record}
@@ -44,22 +43,14 @@ someField test s r = someOf test (tagFields (recordOf r .tag)) (valuesOf s r)
 
 -- ---- 1: a negative PlayerDiff client
 
-abbrev pub negativeDiff : Kind → Bool
-negativeDiff (kinds.PlayerDiff c) = not (nonNeg c)
-negativeDiff kinds.Finish = false
-negativeDiff kinds.TickSkip = false
-negativeDiff (kinds.PlayerNew c) = false
-negativeDiff (kinds.PlayerOld c) = false
-negativeDiff kinds.InputDiff = false
-negativeDiff kinds.InputNew = false
-negativeDiff kinds.Message = false
-negativeDiff kinds.Join = false
-negativeDiff kinds.Drop = false
-negativeDiff kinds.ConsoleCommand = false
-negativeDiff kinds.Ex = false
+abbrev pub negativeNumber : Client → Bool
+negativeNumber nowhere = false
+negativeNumber (isNumber c) = not (nonNeg c)
+negativeNumber (following c) = false
+negativeNumber first = false
 
 abbrev pub negativeTag : Tag → Bool
-negativeTag (Plain k) = negativeDiff k
+negativeTag (Plain k) = negativeNumber (kindRow k .client)
 negativeTag (Named k) = false
 negativeTag Other = false
 
@@ -142,7 +133,7 @@ extensionInVersion1 v r = isExtension (recordOf r .tag) && not (hasEx v)
 abbrev pub isKnownId : Tag → List (Value (List ℕ)) → Bool
 isKnownId (Plain k) ms = false
 isKnownId (Named k) ms = false
-isKnownId Other ms = not (eqb (find (firstBytes ms)) count)
+isKnownId Other ms = not (isUnknown (find (firstBytes ms)))
 
 abbrev pub knownIdentifier : List ℕ → Record → Bool
 knownIdentifier s r = isKnownId (recordOf r .tag) (valuesOf s r)

@@ -2,7 +2,7 @@
 use Prim.Native.Nat.{ℕ}
 use mathlib.Core.Bool.{Bool, true, false, _&&_}
 use mathlib.Core.List.{List, [], _∷_, _++_}
-use lib.Dec.{leb, eqb}
+use lib.Dec.{leb}
 use lib.IntN.{negsuc}
 use lib.Signed.{nonNeg}
 use Rattle.varint.specs.Written.{canonical}
@@ -10,34 +10,41 @@ use Rattle.packer.specs.Texts.{isData, dataBytes}
 use Rattle.fields.specs.Fields.{Field, Value, num, bytes, strings}
 use Rattle.fields.specs.Writing.{allWritable, writeFields, partsInside}
 use Rattle.fields.specs.declared.Args.{Args}
-use Rattle.item.specs.Kinds.{kindNumber}
-use Rattle.item.specs.Extensions.{Payload, shaped, whole, unknown, count, idAt, payloadAt, find}
+use Rattle.kinds.specs.Kinds.{
+  Client,
+  nowhere,
+  isNumber,
+  following,
+  first,
+  Beside,
+  nothing,
+  ten,
+  arguments,
+  ofExtension,
+  kindRow,
+  kindNumber,
+}
+use Rattle.extensions.specs.Extensions.{Payload, shaped, whole, idAt, payloadAt, find, isUnknown}
 use Rattle.item.specs.Records.{Content, meaning, Rest, fields, extension, restOf}
 use Rattle.item.specs.Contents.{recordOf}
-use Rattle.item.specs.declared.Version.{Version}
-use Rattle.item.specs.declared.Version.the-variants.{V1, V2}
-use Rattle.item.specs.declared.Kind.{Kind}
-use Rattle.item.specs.declared.Kind.the-variants as kinds
+use Rattle.kinds.specs.declared.Version.{Version}
+use Rattle.kinds.specs.declared.Version.the-variants.{V1, V2}
+use Rattle.kinds.specs.declared.Kind.{Kind}
 use Rattle.item.specs.declared.Tag.{Tag}
 use Rattle.item.specs.declared.Tag.the-variants.{Plain, Named, Other}
 use Rattle.item.specs.declared.Record.{Record}
 
 -- ---- the bytes of a record, of its values
 
--- the client of PlayerNew and PlayerOld follows the number
+-- a client that follows the number
+abbrev pub followingBytes : Client → List ℕ
+followingBytes nowhere = []
+followingBytes (isNumber c) = []
+followingBytes (following c) = canonical c
+followingBytes first = []
+
 abbrev pub clientBytes : Kind → List ℕ
-clientBytes (kinds.PlayerDiff c) = []
-clientBytes kinds.Finish = []
-clientBytes kinds.TickSkip = []
-clientBytes (kinds.PlayerNew c) = canonical c
-clientBytes (kinds.PlayerOld c) = canonical c
-clientBytes kinds.InputDiff = []
-clientBytes kinds.InputNew = []
-clientBytes kinds.Message = []
-clientBytes kinds.Join = []
-clientBytes kinds.Drop = []
-clientBytes kinds.ConsoleCommand = []
-clientBytes kinds.Ex = []
+clientBytes k = followingBytes (kindRow k .client)
 
 abbrev pub kindBytes : Kind → List ℕ
 kindBytes k = canonical (kindNumber k) ++ clientBytes k
@@ -59,7 +66,6 @@ secondBytes (v ∷ vs) = firstBytes vs
 abbrev pub payloadBytes : Payload → List (Value (List ℕ)) → List ℕ
 payloadBytes (shaped fs) vs = writeFields fs vs
 payloadBytes whole vs = firstBytes vs
-payloadBytes unknown vs = []
 
 -- an extension: -11, the identifier, the data
 abbrev pub exBytes : List ℕ → List ℕ → List ℕ
@@ -79,49 +85,45 @@ abbrev pub hasEx : Version → Bool
 hasEx V1 = false
 hasEx V2 = true
 
-abbrev pub kindWritable : Kind → Bool
-kindWritable (kinds.PlayerDiff c) = nonNeg c
-kindWritable kinds.Finish = true
-kindWritable kinds.TickSkip = true
-kindWritable (kinds.PlayerNew c) = true
-kindWritable (kinds.PlayerOld c) = true
-kindWritable kinds.InputDiff = true
-kindWritable kinds.InputNew = true
-kindWritable kinds.Message = true
-kindWritable kinds.Join = true
-kindWritable kinds.Drop = true
-kindWritable kinds.ConsoleCommand = true
-kindWritable kinds.Ex = false
+-- a client that is the kind's number is none below 0
+abbrev pub clientWritable : Client → Bool
+clientWritable nowhere = true
+clientWritable (isNumber c) = nonNeg c
+clientWritable (following c) = true
+clientWritable first = true
 
--- 20 and above are no extensions
+-- an extension is written by its identifier
+abbrev pub besideWritable : Beside → Bool
+besideWritable nothing = true
+besideWritable ten = true
+besideWritable arguments = true
+besideWritable ofExtension = false
+
+abbrev pub kindWritable : Kind → Bool
+kindWritable k = besideWritable (kindRow k .beside) && clientWritable (kindRow k .client)
+
 abbrev pub payloadWritable : Payload → List (Value (List ℕ)) → Bool
 payloadWritable (shaped fs) vs = allWritable fs vs
 payloadWritable whole vs = true
-payloadWritable unknown vs = false
 
 abbrev pub tagWritable : Version → Tag → List (Value (List ℕ)) → Bool
 tagWritable v (Plain k) vs = kindWritable k && allWritable (allFields (restOf k)) vs
 tagWritable v (Named k) vs = hasEx v && (payloadWritable (payloadAt k) vs && isData (payloadBytes (payloadAt k) vs))
-tagWritable v Other vs = hasEx v && (eqb (find (firstBytes vs)) count && isData (secondBytes vs))
+tagWritable v Other vs = hasEx v && (isUnknown (find (firstBytes vs)) && isData (secondBytes vs))
 
 unfoldable pub contentWritable : Version → Content (List ℕ) → Bool
 contentWritable v c = tagWritable v (c .tag) (c .values)
 
 -- ---- a record of the program, with the bytes lent with it
 
+abbrev pub countBeside : Beside → Args → ℕ
+countBeside nothing xs = 0
+countBeside ten xs = 0
+countBeside arguments xs = xs .count
+countBeside ofExtension xs = 0
+
 abbrev pub argCount : Kind → Args → ℕ
-argCount (kinds.PlayerDiff c) xs = 0
-argCount kinds.Finish xs = 0
-argCount kinds.TickSkip xs = 0
-argCount (kinds.PlayerNew c) xs = 0
-argCount (kinds.PlayerOld c) xs = 0
-argCount kinds.InputDiff xs = 0
-argCount kinds.InputNew xs = 0
-argCount kinds.Message xs = 0
-argCount kinds.Join xs = 0
-argCount kinds.Drop xs = 0
-argCount kinds.ConsoleCommand xs = xs .count
-argCount kinds.Ex xs = 0
+argCount k xs = countBeside (kindRow k .beside) xs
 
 abbrev pub tagCount : Tag → Args → ℕ
 tagCount (Plain k) xs = argCount k xs

@@ -4,11 +4,11 @@ use borrow.Author.Needs.{needs}
 use lib.Seq.{length-take-le}
 use Rattle.packer.specs.declared.Part.{Part}
 use Rattle.fields.specs.Fields.{got}
-use Rattle.shapes.specs.Shapes.{idPart, viewed}
+use Rattle.shapes.specs.Shapes.{viewed}
 use Rattle.shapes.specs.declared.FieldsRead.the-variants as read
-use Rattle.item.specs.Extensions.{payloadAt}
+use Rattle.extensions.specs.Extensions.{payloadAt}
 use Rattle.item.specs.Records.{Content}
-use Rattle.extension_records.specs.Views.{payloadIs}
+use Rattle.extensions.specs.Layouts.{payloadIs}
 use Rattle.extension_records.proofs.Payloads.{shaped-payload}
 use Rattle.extension_records.proofs.read_payload.Statement.{statement}
 use Rattle.extension_records.proofs.read_payload.Tie as tie
@@ -21,7 +21,7 @@ returns c =
     let r = c .before .before in
     let l = r .before .before .before in
     let a = l .before .before .before .before .args in
-    shaped-payload (a .s .now) (idPart (a .uuid)) (a .load) (a .which) (payloadAt (a .which)) (a .next) (l .layout .given .0 .0) read.RunsOut
+    shaped-payload (a .s .now) (a .load) (a .which) (payloadAt (a .which)) (a .next) (l .layout .given .0 .0) read.RunsOut
     (ap payloadIs (sym (l .layout .given .1)) ∙ l .before .before .payload-of .ensures)
     (ap (viewed (l .layout .given .0 .0)) (sym (c .enum-told .given .1)) ∙ r .read-shape .ensures .values)
 
@@ -32,7 +32,7 @@ returns-2 c =
     let l = r .before .before .before in
     let a = l .before .before .before .before .args in
     ap (λ (x : Content Part). got x (a .next)) (c .ex-item .ensures)
-    ∙ shaped-payload (a .s .now) (idPart (a .uuid)) (a .load) (a .which) (payloadAt (a .which)) (a .next) (l .layout .given .0 .0)
+    ∙ shaped-payload (a .s .now) (a .load) (a .which) (payloadAt (a .which)) (a .next) (l .layout .given .0 .0)
     (read.Got (f .fields .given .0 .0) (f .fields .given .0 .1 .0))
     (ap payloadIs (sym (l .layout .given .1)) ∙ l .before .before .payload-of .ensures)
     (ap (viewed (l .layout .given .0 .0)) (sym (f .fields .given .1)) ∙ r .read-shape .ensures .values)
@@ -42,15 +42,10 @@ returns-3 c =
     let e = ap payloadIs (sym (c .before .before .enum-told2 .given .1)) ∙ c .before .before .before .before .payload-of .ensures in
     rw (c .ex-item2 .ensures, c .before .data-fields .ensures, ← e)
 
-returns-4 : tie.Need-returns-4
-returns-4 c =
-    let e = ap payloadIs (sym (c .before .before .enum-told3 .given .1)) ∙ c .before .before .before .before .payload-of .ensures in
-    rw (c .ex-item3 .ensures, c .before .data-fields2 .ensures, ← e)
-
 pub read-payload-spec : {M : Type 1} → statement M
 read-payload-spec =
     tie.close
     (tie.spec
     (λ c κs. search needs) (λ c. search needs) slice-aggregate-read-shape (λ c κs. search needs) (λ c. search needs) (λ c. search needs) returns
-    (λ c κs. search needs) (λ c. search needs) (λ c κs. search needs) (λ c κs. search needs) (λ c. search needs) (λ c κs. search needs) (λ c κs. search needs)
-    returns-2 returns-3 returns-4)
+    (λ c κs. search needs) (λ c. search needs) (λ c κs. search needs) (λ c κs. search needs)
+    returns-2 returns-3)

@@ -2,7 +2,7 @@
 use mathlib.Core.Path.{_≡_}
 use native.Mathlib.Omega.{arith}
 use borrow.Author.Needs.{needs}
-use Rattle.ids.proofs.Halves.{four}
+use Rattle.ids.proofs.ByHalves.{four}
 use Rattle.ids.proofs.quad.Statement.{statement}
 use Rattle.ids.proofs.quad.Tie as tie
 

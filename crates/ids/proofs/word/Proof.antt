@@ -2,7 +2,7 @@
 use mathlib.Core.Path.{_≡_, _∙_}
 use native.Mathlib.Omega.{arith}
 use borrow.Author.Needs.{needs}
-use Rattle.ids.proofs.Halves.{eight}
+use Rattle.ids.proofs.ByHalves.{eight}
 use Rattle.ids.proofs.word.Statement.{statement}
 use Rattle.ids.proofs.word.Tie as tie
 

@@ -3,7 +3,7 @@ use mathlib.Core.Path.{_≡_, sym, _∙_}
 use mir.Syntax.{w32}
 use mir.Val.{toZ, ofZ}
 use Rattle.item.specs.Contents.{itemOf, cidOf}
-use Rattle.item.specs.declared.Cid.the-variants.{Of, NoCid}
+use Rattle.kinds.specs.declared.Cid.the-variants.{Of, NoCid}
 use borrow.Author.Needs.{needs}
 use Rattle.state.proofs.Numbers.{back}
 use Rattle.many.proofs.put_record.Statement.{statement}

@@ -11,7 +11,5 @@ payload-plan-spec =
     (λ c. search needs)
     (λ c κs. search needs)
     (λ c. search needs)
-    (λ c. search needs)
     (λ c. rw (c .before .before .layout .given .1) (c .plan-of .ensures))
-    (λ c. rw (c .enum-told .given .1))
-    (λ c. rw (c .enum-told2 .given .1)))
+    (λ c. rw (c .enum-told .given .1)))

@@ -6,12 +6,12 @@ use mir.Syntax.{w32}
 use mir.Facts.{toZ-ofZ}
 use Rattle.refusal.specs.Said.{gives}
 use Rattle.refusal.specs.declared.Refusal.{Refusal}
-use Rattle.item.specs.Magic.{versionOf}
-use Rattle.item.specs.Views.{versionIs}
-use Rattle.item.specs.declared.Version.{Version}
-use Rattle.item.specs.declared.Version.the-variants.{V1}
-use Rattle.item.specs.declared.VersionOf.{VersionOf}
-use Rattle.item.specs.declared.VersionOf.the-variants as versions
+use Rattle.kinds.specs.Magic.{versionOf}
+use Rattle.kinds.specs.Views.{versionIs}
+use Rattle.kinds.specs.declared.Version.{Version}
+use Rattle.kinds.specs.declared.Version.the-variants.{V1}
+use Rattle.kinds.specs.declared.VersionOf.{VersionOf}
+use Rattle.kinds.specs.declared.VersionOf.the-variants as versions
 use Rattle.state.specs.State.{emptyReader}
 use Rattle.state.specs.declared.Reader.{Reader}
 use Rattle.reader.specs.Wanted.{emptyOf, WantedIs}

@@ -12,7 +12,7 @@ use mir.Facts.{toZ-pos}
 use Rattle.varint.specs.Written.{canonical}
 use Rattle.varint.proofs.Writing.{canonical-le, short}
 use Rattle.packer.proofs.Joined.{put-answer}
-use Rattle.item.specs.Extensions.{idAt}
+use Rattle.extensions.specs.Extensions.{idAt}
 use Rattle.plans.specs.Plans.{planBytes}
 use Rattle.record_writer.specs.Puts.{HasRoom}
 use Rattle.record_writer.proofs.Puts.{Rest, rest-all, rest-last, rest-room, rest-step}
@@ -38,7 +38,7 @@ all c = p1 c ++ (p2 c ++ (p3 c ++ p4 c))
 
 -- the size as a signed number
 size-is : (c : tie.Start) → toZ w32 (c .args .size) ≡ pos (length (p4 c))
-size-is c = toZ-pos w32 {n = c .args .size} (omega (arith, c .pre .1 .0)) ∙ ap pos (c .pre .1 .1 .0)
+size-is c = toZ-pos w32 {n = c .args .size} (omega (arith, c .pre .0)) ∙ ap pos (c .pre .1 .0)
 
 sized : (c : tie.After-int-size) → c .int-size .result ≡ length (p3 (c .before .before .before))
 sized c = rw (size-is (c .before .before .before)) at (c .int-size .ensures)
@@ -49,7 +49,7 @@ small c = rw (sized c) (canonical-le (pos (length (p4 (c .before .before .before
 whole : (c : tie.After-int-size) → let d = c .before .before .before in length (all d) ≡ 17 + c .int-size .result + d .args .size
 whole c =
     let d = c .before .before .before in
-    omega (arith, framed-length (d .args .k) (d .pre .0) (p4 d), sized c, d .pre .1 .1 .0)
+    omega (arith, framed-length (d .args .k) (p4 d), sized c, d .pre .1 .0)
 
 returns : tie.Need-returns
 returns c =
@@ -99,11 +99,9 @@ put-int-requires c κs =
 put-id-requires : tie.Need-put-id-requires
 put-id-requires c κs =
     let e = c .before .before .before in
-    let d = e .before .before .before .before .before .before .before in (
-      d .pre .0,
-      rest-room (d .args .out .now) (d .args .at) (all d) (room (e .before .before)) (e .put-int .last .1 .1 .0) (e .put-int .result) (p2 d)
-          (p3 d ++ p4 d) (after-number e),
-    )
+    let d = e .before .before .before .before .before .before .before in
+    rest-room (d .args .out .now) (d .args .at) (all d) (room (e .before .before)) (e .put-int .last .1 .1 .0) (e .put-int .result) (p2 d)
+    (p3 d ++ p4 d) (after-number e)
 
 put-int-requires-2 : tie.Need-put-int-requires-2
 put-int-requires-2 c κs =
@@ -118,7 +116,7 @@ put-plan-requires c κs =
     let e = c .before .before .before in
     let r = room (e .before .before .before .before .before .before .before .before .before .before) in
     let d = e .before .before .before .before .before .before .before .before .before .before .before .before .before .before .before in (
-      d .pre .1 .1 .1,
+      d .pre .1 .1,
       rest-all (d .args .out .now) (d .args .at) (all d) r (e .put-int2 .last .1 .1 .0) (e .put-int2 .result) (p4 d) (after-size e),
     )
 

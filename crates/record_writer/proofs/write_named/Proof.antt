@@ -1,7 +1,7 @@
 -- `record_writer::write_named` meets its contract. Assumes nothing.
 use mathlib.Core.Path.{_≡_, refl, sym, _∙_, ap}
 use borrow.Author.Needs.{needs}
-use Rattle.item.specs.declared.Version.the-variants.{V1, V2}
+use Rattle.kinds.specs.declared.Version.the-variants.{V1, V2}
 use Rattle.outlines.proofs.Extensions.{named-ok, named-bytes}
 use Rattle.record_writer.proofs.write_named.Statement.{statement}
 use Rattle.record_writer.proofs.write_named.Tie as tie
@@ -11,7 +11,7 @@ returns c =
     let d = c .before .before .before .before .before .before in
     let a = d .args in
     let l = c .before .before .before .payload-of in
-    rw (c .enum-told .given .1, named-ok (a .s .now) (a .f) (a .ten) (a .args) (a .k) (d .pre) (l .result) (l .ensures) V1) (refl, refl)
+    rw (c .enum-told .given .1, named-ok (a .s .now) (a .f) (a .ten) (a .args) (a .k) (l .result) (l .ensures) V1) (refl, refl)
 
 returns-2 : tie.Need-returns-2
 returns-2 c =
@@ -21,8 +21,8 @@ returns-2 c =
     let a = d .args in
     rw (
       e .enum-told2 .given .1,
-      named-ok (a .s .now) (a .f) (a .ten) (a .args) (a .k) (d .pre) (l .result) (l .ensures) V2,
-      named-bytes (a .s .now) (a .f) (a .ten) (a .args) (a .k) (d .pre) (l .result) (l .ensures),
+      named-ok (a .s .now) (a .f) (a .ten) (a .args) (a .k) (l .result) (l .ensures) V2,
+      named-bytes (a .s .now) (a .f) (a .ten) (a .args) (a .k) (l .result) (l .ensures),
     )
     (rw (e .before .before .payload-plan .ensures) at (c .before .before .write-payload .ensures))
 

@@ -31,7 +31,7 @@ write-framed-requires : tie.Need-write-framed-requires
 write-framed-requires c κs =
     let d = c .before .before .before .before .before .before .before .before .before in
     let z = size (c .before) in
-    (d .pre, (omega arith, (omega (arith, z .0, z .1), ok (c .before .before .before .before .before))))
+    (omega arith, (omega (arith, z .0, z .1), ok (c .before .before .before .before .before)))
 
 returns-2 : tie.Need-returns-2
 returns-2 c =

@@ -10,13 +10,14 @@ use mir.Val.{SFits, toZ, ofZ}
 use Rattle.varint.specs.Written.{wroteIf, wroteSaid}
 use Rattle.varint.specs.declared.Wrote.{Wrote}
 use Rattle.varint.proofs.Theorems.{writers-say}
-use Rattle.item.specs.Contents.{itemOf, fromFields}
-use Rattle.item.specs.declared.Version.{Version}
+use Rattle.item.specs.Contents.{itemOf}
+use Rattle.item.specs.Taken.{fromFields}
+use Rattle.kinds.specs.declared.Version.{Version}
 use Rattle.item.specs.declared.Record.{Record}
 use Rattle.item.specs.declared.Tag.the-variants.{Named}
 use Rattle.written.specs.Written.{recordBytes}
 use Rattle.written.specs.Unwritable.{recordWritable, targetAfter, Writes}
-use Rattle.outlines.proofs.Whole.{record-ok, record-bytes, plain-writes, other-writes, named-few}
+use Rattle.outlines.proofs.Whole.{record-ok, record-bytes, plain-writes, other-writes}
 use Rattle.record_writer.proofs.write_record.Statement.{statement}
 use Rattle.record_writer.proofs.write_record.Tie as tie
 
@@ -25,13 +26,6 @@ writes : (v : Version) (s : List ℕ) (r : Record) (xs : List ℕ) (at : ℕ) (w
     → (w ≡ wroteIf (recordWritable v s r) xs at (recordBytes s r)) × (ys ≡ targetAfter v s r xs at) → Writes v s r xs at w ys
 writes v s r xs at w ys e =
     record { answer = ap wroteSaid (e .0) ∙ writers-say (recordWritable v s r) xs at (recordBytes s r); target = e .1 }
-
-write-named-requires : tie.Need-write-named-requires
-write-named-requires c κs =
-    let t = c .before .before .before .before .before .take-apart in
-    let g = c .before .before .tag2 .given in
-    named-few (c .before .before .before .before .before .before .before .before .before .before .args .value .item) (g .0 .0)
-    (ap (λ y. y .tag) (sym (t .ensures .values)) ∙ g .1)
 
 returns : tie.Need-returns
 returns c =
@@ -78,5 +72,5 @@ pub write-record-spec : {M : Type 1} → statement M
 write-record-spec =
     tie.close
     (tie.spec (λ c κs. search needs) (λ c. search needs) (λ c κs. search needs) (λ c κs. search needs) (λ c. search needs)
-    write-named-requires (λ c. search needs) (λ c κs. search needs) (λ c κs. search needs) (λ c κs. search needs) (λ c. search needs)
+    (λ c κs. search needs) (λ c. search needs) (λ c κs. search needs) (λ c κs. search needs) (λ c κs. search needs) (λ c. search needs)
     returns (λ c. search needs) returns-2 (λ c. search needs) returns-3)

@@ -5,8 +5,8 @@ use lib.IntN.{ℤ}
 use mir.Syntax.{w32}
 use mir.Val.{SFits, toZ, ofZ}
 use mir.Facts.{toZ-ofZ}
-use Rattle.item.specs.Contents.{fromFields}
-use Rattle.item.specs.declared.Kind.{Kind}
+use Rattle.item.specs.Taken.{fromFields}
+use Rattle.kinds.specs.declared.Kind.{Kind}
 use Rattle.item.specs.declared.Tag.the-variants.{Plain}
 use Rattle.extension_records.proofs.Held.{held, held-same}
 use Rattle.records.specs.Views.{restCode, isShaped}

@@ -2,7 +2,7 @@
 use mathlib.Core.Path.{_≡_, sym, _∙_}
 use mir.Syntax.{w32}
 use mir.Val.{toZ, ofZ}
-use Rattle.item.specs.declared.Kind.the-variants.{ConsoleCommand}
+use Rattle.kinds.specs.declared.Kind.the-variants.{ConsoleCommand}
 use Rattle.records.proofs.Commands.{no-head, command-rest}
 use Rattle.records.proofs.Calls.{rest-out}
 use borrow.Author.Needs.{needs}

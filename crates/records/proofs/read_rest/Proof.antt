@@ -1,7 +1,7 @@
 -- `records::read_rest` meets its contract. Assumes nothing.
 use mathlib.Core.Path.{_≡_, sym, _∙_}
 use Rattle.item.specs.Records.{readEx, readRest}
-use Rattle.item.specs.declared.Kind.the-variants as kinds
+use Rattle.kinds.specs.declared.Kind.the-variants as kinds
 use Rattle.records.specs.declared.Rest.the-variants as rests
 use Rattle.records.proofs.Rests.{byRest, rest-told}
 use Rattle.records.proofs.Beside.{lone-shaped, lone-dt, lone-ex, whole-rest}

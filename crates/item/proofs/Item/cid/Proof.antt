@@ -4,8 +4,9 @@ use mathlib.Core.Bool.{Bool, true, false, cond}
 use borrow.Author.Needs.{needs}
 use mir.Syntax.{w32}
 use mir.Val.{toZ, ofZ}
-use Rattle.item.specs.Contents.{itemOf, kindCid, cidOf}
-use Rattle.item.specs.declared.Cid.the-variants.{Of, NoCid}
+use Rattle.item.specs.Contents.{itemOf, cidOf}
+use Rattle.kinds.specs.Kinds.{kindCid}
+use Rattle.kinds.specs.declared.Cid.the-variants.{Of, NoCid}
 use Rattle.item.specs.declared.Tag.the-variants.{Plain, Named, Other}
 use Rattle.item.proofs.Apart.{cid-told}
 use Rattle.item.proofs.Item.cid.Statement.{statement}
@@ -32,7 +33,7 @@ returns-2 c =
     let t = c .before .before .before .before .before .take-apart in
     let g = c .before .before .tag .given in
     let u : toZ w32 (ofZ w32 (t .result .fields .first)) ≡ t .result .fields .first = search needs in
-    c .kind-cid .ensures ∙ ap (kindCid (g .0 .0)) u ∙ cid-told _ (t .result) (Plain (g .0 .0)) (t .ensures) (g .1)
+    c .cid .ensures ∙ ap (kindCid (g .0 .0)) u ∙ cid-told _ (t .result) (Plain (g .0 .0)) (t .ensures) (g .1)
 
 returns-3 : tie.Need-returns-3
 returns-3 c = named (c .before) false (c .if1 .left)

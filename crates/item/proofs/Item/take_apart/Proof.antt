@@ -3,7 +3,7 @@ use mathlib.Core.Path.{_≡_}
 use mir.Syntax.{w32}
 use mir.Val.{toZ, ofZ}
 use borrow.Author.Needs.{needs}
-use Rattle.item.specs.Extensions.{extensions, payloadAt}
+use Rattle.extensions.specs.Extensions.{extensionRow, payloadAt}
 use Rattle.item.proofs.Apart.{bits-back, tick-apart, command-apart}
 use Rattle.item.proofs.Item.take_apart.Statement.{statement}
 use Rattle.item.proofs.Item.take_apart.Tie as tie
@@ -22,7 +22,7 @@ returns-11 c =
     rw (g .1, c .taken-with11 .ensures, u) (command-apart _ _ _ _ (bits-back (g .0 .1 .0) (s .result) (search needs) (s .ensures)))
 
 pub take-apart-spec : {M : Type 1} → statement M
-unfolding extensions payloadAt
+unfolding extensionRow payloadAt
 take-apart-spec =
     tie.close
     (tie.spec

@@ -1,0 +1,142 @@
+-- Kinds. docs/FORMAT.md, "Records": 0 and above PlayerDiff of that client; -1 Finish; .. -11 extension, version 2 only.
+use Prim.Native.Nat.{ℕ, zero, suc, _+_}
+use mathlib.Core.Bool.{Bool, true, false}
+use mathlib.Core.List.{List, [], _∷_}
+use lib.IntN.{ℤ, pos, negsuc}
+use Rattle.refusal.specs.declared.Refusal.the-variants.{UnknownType}
+use Rattle.varint.specs.Integers.{readInt}
+use Rattle.varint.specs.declared.IntRead.{IntRead}
+use Rattle.varint.specs.declared.IntRead.the-variants as ints
+use Rattle.fields.specs.Fields.{Field, int, dt, mask, str, blob, Reading, got, runsOut, refused}
+use Rattle.kinds.specs.declared.Cid.{Cid}
+use Rattle.kinds.specs.declared.Cid.the-variants.{Of, NoCid}
+use Rattle.kinds.specs.declared.Version.{Version}
+use Rattle.kinds.specs.declared.Version.the-variants.{V1, V2}
+use Rattle.kinds.specs.declared.Kind.{Kind}
+use Rattle.kinds.specs.declared.Kind.the-variants.{
+  PlayerDiff,
+  Finish,
+  TickSkip,
+  PlayerNew,
+  PlayerOld,
+  InputDiff,
+  InputNew,
+  Message,
+  Join,
+  Drop,
+  ConsoleCommand,
+  Ex,
+}
+
+-- the client belongs to the kind
+abbrev pub withClient : (ℤ → Kind) → IntRead → Reading Kind
+withClient kind (ints.Got c next remark) = got (kind c) next
+withClient kind ints.RunsOut = runsOut
+
+-- PlayerOld or PlayerNew of a client
+abbrev pub playerKind : Bool → ℤ → Kind
+playerKind true c = PlayerOld c
+playerKind false c = PlayerNew c
+
+abbrev pub extension : Version → ℕ → Reading Kind
+extension V1 next = refused (UnknownType (negsuc 10))
+extension V2 next = got Ex next
+
+-- `negsuc n` is -(n + 1)
+abbrev pub kindOf : Version → List ℕ → ℤ → ℕ → Reading Kind
+kindOf v s (pos c) next = got (PlayerDiff (pos c)) next
+kindOf v s (negsuc zero) next = got Finish next
+kindOf v s (negsuc (suc zero)) next = got TickSkip next
+kindOf v s (negsuc (suc (suc zero))) next = withClient PlayerNew (readInt s next)
+kindOf v s (negsuc (suc (suc (suc zero)))) next = withClient PlayerOld (readInt s next)
+kindOf v s (negsuc (suc (suc (suc (suc zero))))) next = got InputDiff next
+kindOf v s (negsuc (suc (suc (suc (suc (suc zero)))))) next = got InputNew next
+kindOf v s (negsuc (suc (suc (suc (suc (suc (suc zero))))))) next = got Message next
+kindOf v s (negsuc (suc (suc (suc (suc (suc (suc (suc zero)))))))) next = got Join next
+kindOf v s (negsuc (suc (suc (suc (suc (suc (suc (suc (suc zero))))))))) next = got Drop next
+kindOf v s (negsuc (suc (suc (suc (suc (suc (suc (suc (suc (suc zero)))))))))) next = got ConsoleCommand next
+kindOf v s (negsuc (suc (suc (suc (suc (suc (suc (suc (suc (suc (suc zero))))))))))) next = extension v next
+kindOf v s (negsuc (suc (suc (suc (suc (suc (suc (suc (suc (suc (suc (suc n)))))))))))) next = refused (UnknownType (negsuc (11 + n)))
+
+abbrev pub afterNumber : Version → List ℕ → IntRead → Reading Kind
+afterNumber v s (ints.Got z next remark) = kindOf v s z next
+afterNumber v s ints.RunsOut = runsOut
+
+-- the kind at a place
+unfoldable pub readKind : Version → List ℕ → ℕ → Reading Kind
+readKind v s at = afterNumber v s (readInt s at)
+
+-- ---- the kinds, a row for each
+
+-- where a record's client stands: nowhere; it is the kind's number; it follows the number; it is the first of the fields
+pub data Client : Type 0 where
+  nowhere : Client
+  isNumber : ℤ → Client
+  following : ℤ → Client
+  first : Client
+
+-- what stands beside a record: nothing, the ten numbers of an input, the arguments of a command. Or the record is an extension
+pub data Beside : Type 0 where
+  nothing : Beside
+  ten : Beside
+  arguments : Beside
+  ofExtension : Beside
+
+-- which of the tick's rules a kind is under: a player record of a client, Finish, TickSkip, or another
+pub data Sort : Type 0 where
+  player : ℤ → Sort
+  finish : Sort
+  skip : Sort
+  other : Sort
+
+pub record KindRow : Type 0 where
+  pub number : ℤ
+  pub client : Client
+  pub own : List Field
+  pub beside : Beside
+  pub sort : Sort
+
+abbrev row : ℤ → Client → List Field → Beside → Sort → KindRow
+row z c fs b r = record { number = z; client = c; own = fs; beside = b; sort = r }
+
+abbrev pub kindRow : Kind → KindRow
+kindRow (PlayerDiff c) = row c (isNumber c) (int ∷ int ∷ []) nothing (player c)
+kindRow Finish = row (negsuc 0) nowhere [] nothing finish
+kindRow TickSkip = row (negsuc 1) nowhere (dt ∷ []) nothing skip
+kindRow (PlayerNew c) = row (negsuc 2) (following c) (int ∷ int ∷ []) nothing (player c)
+kindRow (PlayerOld c) = row (negsuc 3) (following c) [] nothing (player c)
+kindRow InputDiff = row (negsuc 4) first (int ∷ []) ten other
+kindRow InputNew = row (negsuc 5) first (int ∷ []) ten other
+kindRow Message = row (negsuc 6) first (int ∷ blob ∷ []) nothing other
+kindRow Join = row (negsuc 7) first (int ∷ []) nothing other
+kindRow Drop = row (negsuc 8) first (int ∷ str ∷ []) nothing other
+kindRow ConsoleCommand = row (negsuc 9) first (int ∷ mask ∷ str ∷ []) arguments other
+kindRow Ex = row (negsuc 10) nowhere [] ofExtension other
+
+-- a kind whose records have arguments beside them
+abbrev pub hasArguments : Beside → Bool
+hasArguments nothing = false
+hasArguments ten = false
+hasArguments arguments = true
+hasArguments ofExtension = false
+
+abbrev pub isCommand : Kind → Bool
+isCommand k = hasArguments (kindRow k .beside)
+
+-- InputNew or InputDiff
+abbrev pub inputKind : Bool → Kind
+inputKind true = InputNew
+inputKind false = InputDiff
+
+abbrev pub kindNumber : Kind → ℤ
+kindNumber k = kindRow k .number
+
+-- the client of a record of a kind, whose first number this is
+abbrev pub clientIs : Client → ℤ → Cid
+clientIs nowhere z = NoCid
+clientIs (isNumber c) z = Of c
+clientIs (following c) z = Of c
+clientIs first z = Of z
+
+abbrev pub kindCid : Kind → ℤ → Cid
+kindCid k z = clientIs (kindRow k .client) z
