@@ -1,7 +1,7 @@
 -- The records that have no written form and are refused 11: those for which one of eight tests holds. docs/FORMAT.md, "The writer".
 use Prim.Native.Nat.{ℕ}
 use mathlib.Core.Path.{_≡_}
-use mathlib.Core.Bool.{Bool, true, false, not, _&&_, _||_}
+use mathlib.Core.Bool.{Bool, true, false, cond, not, _&&_, _||_}
 use mathlib.Core.List.{List, [], _∷_, map}
 use lib.Dec.{leb, eqb}
 use lib.Signed.{nonNeg}
@@ -91,7 +91,7 @@ largeDt s r = someField isLargeDt s r
 
 abbrev pub holdsZero : Field → Value (List ℕ) → Bool
 holdsZero f v =
-    (isField str f && onBytes false (λ b. not (noZero b)) v) || (isField args f && onStrings false (λ bs. not (allNoZero bs)) v)
+    cond (isField str f) (onBytes false (λ b. not (noZero b)) v) (isField args f && onStrings false (λ bs. not (allNoZero bs)) v)
 
 abbrev pub zeroInString : List ℕ → Record → Bool
 zeroInString s r = someField holdsZero s r
