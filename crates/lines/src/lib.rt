@@ -16,12 +16,12 @@ ghost use Rattle.lines.specs.Lines.{
   lineOf,
   lastLine,
   longest,
-  Puts,
   textAnswer,
   textTarget,
   lineAnswer,
   lineTarget,
 };
+ghost use Rattle.lines.specs.Puts.{Puts};
 ghost use Rattle.state.specs.Views.{eventIs};
 use item::Cid;
 use refusal::Refusal;
