@@ -23,7 +23,9 @@ use lib.Seq.{
   paste-suc,
 }
 use Rattle.num.proofs.Cases.{by-bool}
-use Rattle.feed.specs.Feed.{unread, kept, passed, grown, clamped, Passes, Grows}
+use Rattle.feed.specs.Feed.{unread, kept, passed, grown}
+use Rattle.feed.specs.Clamped.{clamped}
+use Rattle.feed.specs.Laws.{Passes, Grows}
 use Rattle.feed.specs.declared.Hand.{Hand}
 
 -- ---- places inside the buffer

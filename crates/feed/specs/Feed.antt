@@ -1,6 +1,5 @@
 -- The bytes at hand in a lent buffer. What a read puts into the buffer stands behind those that are kept.
 use Prim.Native.Nat.{ℕ, _+_, _-_, min}
-use mathlib.Core.Path.{_≡_}
 use mathlib.Core.Bool.{false}
 use mathlib.Core.List.{List, _++_}
 use lib.Dec.{eqb}
@@ -27,19 +26,3 @@ passed h used = record { at = h .end - (h .end - h .at - used); end = h .end; en
 -- after a read that put so many behind the first n of a buffer of a length
 abbrev pub grown : ℕ → ℕ → ℕ → Hand
 grown len n got = record { at = 0; end = min n len + min got (len - n); ended = eqb got 0 }
-
--- the same bytes, with places inside a buffer of a length
-abbrev pub clamped : Hand → ℕ → Hand
-clamped h len = record { at = min (h .at) (min (h .end) len); end = min (h .end) len; ended = h .ended }
-
--- ---- what holds of them, proved in proofs/Fed.antt
-
--- what was used is gone from the front
-abbrev pub Passes : Type 0
-Passes = (h : Hand) (used : ℕ) (buf : List ℕ) → unread (passed h used) buf ≡ drop used (unread h buf)
-
--- what a read put behind the bytes that were kept is at hand behind them
-abbrev pub Grows : Type 0
-Grows =
-    (bytes got rest : List ℕ) → let buf = bytes ++ (got ++ rest) in
-    unread (grown (length buf) (length bytes) (length got)) buf ≡ bytes ++ got

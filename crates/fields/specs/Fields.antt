@@ -34,6 +34,22 @@ pub data Value (A : Type 0) : Type 0 where
   bytes : A → Value A
   strings : List A → Value A
 
+-- what a number gives, or bytes, or strings; x for a value of another sort
+abbrev pub onNum {ℓ} : {A : Type 0} {B : Type ℓ} → B → (ℤ → B) → Value A → B
+onNum x f (num z) = f z
+onNum x f (bytes b) = x
+onNum x f (strings bs) = x
+
+abbrev pub onBytes {ℓ} : {A : Type 0} {B : Type ℓ} → B → (A → B) → Value A → B
+onBytes x f (num z) = x
+onBytes x f (bytes b) = f b
+onBytes x f (strings bs) = x
+
+abbrev pub onStrings {ℓ} : {A : Type 0} {B : Type ℓ} → B → (List A → B) → Value A → B
+onStrings x f (num z) = x
+onStrings x f (bytes b) = x
+onStrings x f (strings bs) = f bs
+
 -- what reading says: what was got and the place past it; that the bytes run out; a refusal
 pub data Reading (A : Type 0) : Type 0 where
   got : A → ℕ → Reading A

@@ -11,7 +11,7 @@ use mir.Val.{SFits, toZ}
 use Rattle.varint.specs.Written.{canonical}
 use Rattle.packer.specs.Texts.{noZero, stringBytes, isData, dataBytes}
 use Rattle.packer.specs.declared.Part.{Part}
-use Rattle.fields.specs.Fields.{Field, int, dt, mask, str, uuid, blob, args, Value, num, bytes, strings}
+use Rattle.fields.specs.Fields.{Field, int, dt, mask, str, uuid, blob, args, Value, num, bytes, strings, onNum, onBytes, onStrings}
 
 -- ---- the values of each sort of field: numbers of 32 bits, 16 bytes of an identifier
 
@@ -19,34 +19,27 @@ abbrev pub natural32 : ℤ → Type 0
 natural32 (pos n) = n < 4294967296
 natural32 (negsuc n) = ⊥
 
+-- `size` of what stands for the bytes: of the bytes themselves, or of a part of a window
+abbrev pub SortOf : {A : Type 0} → (A → ℕ) → Field → Value A → Type 0
+SortOf size int v = onNum ⊥ (SFits w32) v
+SortOf size dt v = onNum ⊥ natural32 v
+SortOf size mask v = onNum ⊥ natural32 v
+SortOf size str v = onBytes ⊥ (λ b. Unit) v
+SortOf size uuid v = onBytes ⊥ (λ b. size b ≡ 16) v
+SortOf size blob v = onBytes ⊥ (λ b. Unit) v
+SortOf size args v = onStrings ⊥ (λ bs. Unit) v
+
+abbrev pub SortsOf : {A : Type 0} → (A → ℕ) → List Field → List (Value A) → Type 0
+SortsOf size [] [] = Unit
+SortsOf size [] (v ∷ vs) = ⊥
+SortsOf size (f ∷ fs) [] = ⊥
+SortsOf size (f ∷ fs) (v ∷ vs) = SortOf size f v × SortsOf size fs vs
+
 abbrev pub Sorted : Field → Value (List ℕ) → Type 0
-Sorted int (num z) = SFits w32 z
-Sorted int (bytes b) = ⊥
-Sorted int (strings bs) = ⊥
-Sorted dt (num z) = natural32 z
-Sorted dt (bytes b) = ⊥
-Sorted dt (strings bs) = ⊥
-Sorted mask (num z) = natural32 z
-Sorted mask (bytes b) = ⊥
-Sorted mask (strings bs) = ⊥
-Sorted str (num z) = ⊥
-Sorted str (bytes b) = Unit
-Sorted str (strings bs) = ⊥
-Sorted uuid (num z) = ⊥
-Sorted uuid (bytes b) = length b ≡ 16
-Sorted uuid (strings bs) = ⊥
-Sorted blob (num z) = ⊥
-Sorted blob (bytes b) = Unit
-Sorted blob (strings bs) = ⊥
-Sorted args (num z) = ⊥
-Sorted args (bytes b) = ⊥
-Sorted args (strings bs) = Unit
+Sorted = SortOf length
 
 abbrev pub AllSorted : List Field → List (Value (List ℕ)) → Type 0
-AllSorted [] [] = Unit
-AllSorted [] (v ∷ vs) = ⊥
-AllSorted (f ∷ fs) [] = ⊥
-AllSorted (f ∷ fs) (v ∷ vs) = Sorted f v × AllSorted fs vs
+AllSorted = SortsOf length
 
 -- ---- the values that have a written form: dt up to 2147483647, strings without 00, at most 16 of them, data up to 2147483647 bytes
 
@@ -60,20 +53,12 @@ smallDt (negsuc n) = false
 
 abbrev pub writable : Field → Value (List ℕ) → Bool
 writable int v = true
-writable dt (num z) = smallDt z
-writable dt (bytes b) = false
-writable dt (strings bs) = false
+writable dt v = onNum false smallDt v
 writable mask v = true
-writable str (num z) = false
-writable str (bytes b) = noZero b
-writable str (strings bs) = false
+writable str v = onBytes false noZero v
 writable uuid v = true
-writable blob (num z) = false
-writable blob (bytes b) = isData b
-writable blob (strings bs) = false
-writable args (num z) = false
-writable args (bytes b) = false
-writable args (strings bs) = leb (length bs) 16 && allNoZero bs
+writable blob v = onBytes false isData v
+writable args v = onStrings false (λ bs. leb (length bs) 16 && allNoZero bs) v
 
 abbrev pub allWritable : List Field → List (Value (List ℕ)) → Bool
 allWritable [] vs = true
@@ -92,27 +77,13 @@ maskBytes (pos n) = canonical (toZ w32 n)
 maskBytes (negsuc n) = []
 
 abbrev pub writeField : Field → Value (List ℕ) → List ℕ
-writeField int (num z) = canonical z
-writeField int (bytes b) = []
-writeField int (strings bs) = []
-writeField dt (num z) = canonical z
-writeField dt (bytes b) = []
-writeField dt (strings bs) = []
-writeField mask (num z) = maskBytes z
-writeField mask (bytes b) = []
-writeField mask (strings bs) = []
-writeField str (num z) = []
-writeField str (bytes b) = stringBytes b
-writeField str (strings bs) = []
-writeField uuid (num z) = []
-writeField uuid (bytes b) = b
-writeField uuid (strings bs) = []
-writeField blob (num z) = []
-writeField blob (bytes b) = dataBytes b
-writeField blob (strings bs) = []
-writeField args (num z) = []
-writeField args (bytes b) = []
-writeField args (strings bs) = canonical (pos (length bs)) ++ stringsBytes bs
+writeField int v = onNum [] canonical v
+writeField dt v = onNum [] canonical v
+writeField mask v = onNum [] maskBytes v
+writeField str v = onBytes [] stringBytes v
+writeField uuid v = onBytes [] (λ b. b) v
+writeField blob v = onBytes [] dataBytes v
+writeField args v = onStrings [] (λ bs. canonical (pos (length bs)) ++ stringsBytes bs) v
 
 abbrev pub writeFields : List Field → List (Value (List ℕ)) → List ℕ
 writeFields [] vs = []

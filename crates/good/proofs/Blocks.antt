@@ -10,13 +10,8 @@ use lib.Dec.{eqb}
 use lib.IntN.{ℤ}
 use borrow.Author.Tests.{eqb-true}
 use Rattle.state.specs.State.{every, goodEntry, zeroAt, tenZeros, goodInput}
-use Rattle.state.proofs.Every.{left-of, right-of}
+use Rattle.state.proofs.Every.{left-of, right-of, every-same}
 use Rattle.good.specs.Blocks.{from, noMark}
-
-every-same : (n : ℕ) (p q : ℕ → Bool) → ((k : ℕ) → p k ≡ q k) → every n p ≡ every n q
-unfolding every
-every-same zero p q e = refl
-every-same (suc n) p q e = rw (e n, every-same n p q e)
 
 and-assoc : (a b c : Bool) → ((a && b) && c) ≡ (a && (b && c))
 and-assoc true b c = refl
@@ -37,8 +32,7 @@ tens l c zero = refl
 tens l c (suc n) =
     let e : 10 * suc n ≡ 10 * n + 10 = omega arith in
     let ten : every 10 (from (10 * n) (zeroAt l c)) ≡ every 10 (zeroAt l (c + n)) =
-    every-same 10 (from (10 * n) (zeroAt l c)) (zeroAt l (c + n))
-    (λ k. let i : 10 * c + (10 * n + k) ≡ 10 * (c + n) + k = omega arith in rw i)
+    every-same 10 {p = from (10 * n) (zeroAt l c)} {q = zeroAt l (c + n)} (λ k h. let i : 10 * c + (10 * n + k) ≡ 10 * (c + n) + k = omega arith in rw i)
     in
     rw (e, every-more (zeroAt l c) (10 * n) 10, ten, tens l c n)
 

@@ -1,10 +1,9 @@
--- The tests of a state: a loop over the entries, equal numbers, numbers that aren't negative. Assumes nothing.
-use Prim.Native.Nat.{ℕ, suc, _+_, _-_}
+-- The tests of a state: a choice of two, equal numbers, numbers that aren't negative. Assumes nothing.
+use Prim.Native.Nat.{suc, _-_}
 use mathlib.Core.Path.{_≡_, refl, sym, _∙_}
-use mathlib.Core.Bool.{Bool, true, false, cond, _&&_, _||_}
+use mathlib.Core.Bool.{Bool, true, false, cond, _||_}
 use native.Mathlib.Omega.{arith}
 use native.Mathlib.Decide.{ℕ-discrete}
-use native.Mathlib.Numerals.{add-one}
 use lib.Dec.{eqb, leb·zero}
 use lib.IntN.{ℤ, pos, negsuc}
 use lib.Signed.{leZ, nonNeg}
@@ -12,15 +11,7 @@ use borrow.Author.Tests.{eq-eqb, ne-eqb}
 use mir.Syntax.{w32}
 use mir.Val.{SFits, ofZ}
 use Rattle.num.proofs.Cases.{by-eq}
-use Rattle.state.specs.State.{same, every}
-
-pub none-yet : (p : ℕ → Bool) → true ≡ every 0 p
-unfolding every
-none-yet p = refl
-
-pub one-more : (p : ℕ → Bool) (i : ℕ) (t g r : Bool) → t ≡ p i → g ≡ every i p → r ≡ (t && g) → r ≡ every (i + 1) p
-unfolding every
-one-more p i t g r et eg er = rw (add-one, ← et, ← eg) er
+use Rattle.state.specs.State.{same}
 
 pub one-or : (a b : Bool) → (a || b) ≡ cond a true b
 one-or true b = refl

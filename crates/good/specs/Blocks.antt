@@ -1,4 +1,4 @@
--- A block of clients, from one on.
+-- Inner: a block of clients, from one on.
 use Prim.Native.Nat.{ℕ, _+_}
 use mathlib.Core.Bool.{Bool}
 use mathlib.Core.List.{List}

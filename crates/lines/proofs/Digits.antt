@@ -66,14 +66,14 @@ pairs n = pair (n / 100) ++ pair (n % 100)
 pub natural-two : (n : ℕ) → 9 < n → n < 100 → natural n ≡ pair n
 natural-two n h k = natural-more n h (omega arith) ∙ rw (natural-one (n / 10) (omega arith))
 
-pub natural-pair : (n : ℕ) → 99 < n → n < 4294967296 → natural n ≡ natural (n / 100) ++ pair (n % 100)
+natural-pair : (n : ℕ) → 99 < n → n < 4294967296 → natural n ≡ natural (n / 100) ++ pair (n % 100)
 natural-pair n h f =
     let a : n / 10 / 10 ≡ n / 100 = omega arith in
     let b : n / 10 % 10 ≡ n % 100 / 10 = omega arith in
     let c : n % 10 ≡ n % 100 % 10 = omega arith in
     natural-more n (omega arith) f ∙ rw (natural-more (n / 10) (omega arith) (omega arith), append-assoc, a, b, c)
 
-pub natural-pairs : (n : ℕ) → 9999 < n → n < 4294967296 → natural n ≡ natural (n / 10000) ++ pairs (n % 10000)
+natural-pairs : (n : ℕ) → 9999 < n → n < 4294967296 → natural n ≡ natural (n / 10000) ++ pairs (n % 10000)
 natural-pairs n h f =
     let a : n / 100 / 100 ≡ n / 10000 = omega arith in
     let b : n / 100 % 100 ≡ n % 10000 / 100 = omega arith in
@@ -81,16 +81,23 @@ natural-pairs n h f =
     natural-pair n (omega arith) f ∙ rw (natural-pair (n / 100) (omega arith) (omega arith), append-assoc, a, b, c)
 
 -- a number put as a shorter one and the digits behind it
-module _ (xs : List ℕ) (at n high : ℕ) (low : List ℕ) (e : natural n ≡ natural high ++ low) (fits : at + length (natural n) ≤ length xs) where
-  split : at + length (natural high ++ low) ≤ length xs
-  split = rw e at fits
-
+pub record Halves (xs : List ℕ) (at n high : ℕ) (low : List ℕ) : Type 0 where
   pub high-fits : at + length (natural high) ≤ length xs
-  high-fits = first-fits xs at (natural high) low split
+  pub low-fits : (next : ℕ) (ys : List ℕ) → Put xs at (natural high) next ys → next + length low ≤ length ys
+  pub both : (next : ℕ) (ys : List ℕ) → Put xs at (natural high) next ys → (m : ℕ) (zs : List ℕ) → Put ys next low m zs → Put xs at (natural n) m zs
 
-  module _ (next : ℕ) (ys : List ℕ) (p : Put xs at (natural high) next ys) where
-    pub low-fits : next + length low ≤ length ys
-    low-fits = next-fits xs at (natural high) low split next ys p
+module _ (xs : List ℕ) (at n : ℕ) (fits : at + length (natural n) ≤ length xs) where
+  halves : (high : ℕ) (low : List ℕ) → natural n ≡ natural high ++ low → Halves xs at n high low
+  halves high low e =
+      let split : at + length (natural high ++ low) ≤ length xs = rw e at fits in
+      record {
+        high-fits = first-fits xs at (natural high) low split;
+        low-fits = next-fits xs at (natural high) low split;
+        both = λ next ys p m zs q. rw e (two-puts xs at (natural high) low split next ys p m zs q);
+      }
 
-    pub low-put : (m : ℕ) (zs : List ℕ) → Put ys next low m zs → Put xs at (natural n) m zs
-    low-put m zs q = rw e (two-puts xs at (natural high) low split next ys p m zs q)
+  pub by-pair : 99 < n → n < 4294967296 → Halves xs at n (n / 100) (pair (n % 100))
+  by-pair h f = halves (n / 100) (pair (n % 100)) (natural-pair n h f)
+
+  pub by-pairs : 9999 < n → n < 4294967296 → Halves xs at n (n / 10000) (pairs (n % 10000))
+  by-pairs h f = halves (n / 10000) (pairs (n % 10000)) (natural-pairs n h f)

@@ -1,12 +1,15 @@
 -- The lines: how long they are, and from which parts they are put. Assumes nothing.
 use Prim.Native.Nat.{ℕ, _+_, _*_, _≤_, _<_}
-use mathlib.Core.Path.{_≡_, ap}
+use mathlib.Core.Path.{_≡_, _∙_, ap}
+use mathlib.Core.Bool.{true}
 use mathlib.Core.List.{List, [], _∷_, _++_, append-assoc}
 use native.Mathlib.Omega.{arith}
 use lib.ListN.{length, length-append}
 use lib.IntN.{ℤ}
-use borrow.Author.Tests.{le-leb, lt-leb}
+use lib.Dec.{leb}
+use borrow.Author.Tests.{le-leb, lt-leb, leb-true}
 use Rattle.refusal.specs.declared.Refusal.the-variants.{ShortTarget}
+use Rattle.varint.specs.declared.Wrote.{Wrote}
 use Rattle.varint.specs.declared.Wrote.the-variants.{Past, Refused}
 use Rattle.packer.proofs.Joined.{Put, first-fits, next-fits, two-puts}
 use Rattle.item.specs.Contents.{cidOf, tagNumber}
@@ -31,6 +34,8 @@ use Rattle.lines.specs.Lines.{
   longest,
   textAnswer,
   textTarget,
+  lineAnswer,
+  lineTarget,
 }
 use Rattle.lines.proofs.Numbers.{spaced-le}
 
@@ -128,3 +133,11 @@ module _ (most : ℕ) (xs : List ℕ) (at : ℕ) (text : List ℕ) where
   pub line-put : at + most ≤ length xs → (next : ℕ) (ys : List ℕ) → Put xs at text next ys
       → (Past next ≡ textAnswer most xs at text) × (ys ≡ textTarget most xs at text)
   line-put h next ys p = let t = le-leb (at + most) (length xs) h in rw t (ap Past (p .0), p .1)
+
+-- where the longest line fits, a shorter one is written
+pub roomy : (most : ℕ) (xs : List ℕ) (at : ℕ) (text : List ℕ) → leb (at + longest) (length xs) ≡ true → most ≤ longest
+    → (r : Wrote) (ys : List ℕ) → (r ≡ textAnswer most xs at text) × (ys ≡ textTarget most xs at text)
+    → (r ≡ lineAnswer xs at text) × (ys ≡ lineTarget xs at text)
+roomy most xs at text t h r ys e =
+    let u = le-leb (at + most) (length xs) (omega (arith, leb-true (at + longest) (length xs) t)) in
+    (e .0 ∙ rw (u, t), e .1 ∙ rw (u, t))

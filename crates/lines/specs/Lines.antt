@@ -1,6 +1,7 @@
 -- The lines that the replay program prints. docs/FORMAT.md, "The replay program". A text is a list of bytes.
 use Prim.Native.Nat.{ℕ, zero, suc, _+_, _*_, _/_, _%_}
-use mathlib.Core.Path.{_≡_}
+use Prim.Native.Char.{code}
+use Prim.Native.String.{String, [] as []ᵗ, _∷_ as _∷ᵗ_}
 use mathlib.Core.Bool.{cond}
 use mathlib.Core.List.{List, [], _∷_, _++_}
 use lib.Dec.{ltb, leb}
@@ -44,38 +45,43 @@ numbers (z ∷ zs) = spaced z ++ numbers zs
 
 -- ---- words
 
+-- the bytes of a text, which is ASCII
+abbrev pub text : String → List ℕ
+text []ᵗ = []
+text (c ∷ᵗ s) = code c ∷ text s
+
 abbrev pub newline : List ℕ
-newline = 0x0A ∷ []
+newline = text "\n"
 
 abbrev pub startWord : List ℕ
-startWord = 0x73 ∷ 0x74 ∷ 0x61 ∷ 0x72 ∷ 0x74 ∷ []
+startWord = text "start"
 
 abbrev pub endWord : List ℕ
-endWord = 0x65 ∷ 0x6E ∷ 0x64 ∷ []
+endWord = text "end"
 
 abbrev pub newWord : List ℕ
-newWord = 0x6E ∷ 0x65 ∷ 0x77 ∷ []
+newWord = text "new"
 
 abbrev pub changeWord : List ℕ
-changeWord = 0x63 ∷ 0x68 ∷ 0x61 ∷ 0x6E ∷ 0x67 ∷ 0x65 ∷ []
+changeWord = text "change"
 
 abbrev pub oldWord : List ℕ
-oldWord = 0x6F ∷ 0x6C ∷ 0x64 ∷ []
+oldWord = text "old"
 
 abbrev pub inputWord : List ℕ
-inputWord = 0x69 ∷ 0x6E ∷ 0x70 ∷ 0x75 ∷ 0x74 ∷ []
+inputWord = text "input"
 
 abbrev pub recordWord : List ℕ
-recordWord = 0x72 ∷ 0x65 ∷ 0x63 ∷ 0x6F ∷ 0x72 ∷ 0x64 ∷ []
+recordWord = text "record"
 
 abbrev pub finishWord : List ℕ
-finishWord = 0x66 ∷ 0x69 ∷ 0x6E ∷ 0x69 ∷ 0x73 ∷ 0x68 ∷ []
+finishWord = text "finish"
 
 abbrev pub refusedWord : List ℕ
-refusedWord = 0x72 ∷ 0x65 ∷ 0x66 ∷ 0x75 ∷ 0x73 ∷ 0x65 ∷ 0x64 ∷ []
+refusedWord = text "refused"
 
 abbrev pub tooLongWords : List ℕ
-tooLongWords = 0x74 ∷ 0x6F ∷ 0x6F ∷ 0x20 ∷ 0x6C ∷ 0x6F ∷ 0x6E ∷ 0x67 ∷ []
+tooLongWords = text "too long"
 
 -- ---- lines
 
@@ -115,10 +121,6 @@ abbrev pub longest : ℕ
 longest = 138
 
 -- ---- a line into a target, at a place
-
--- bytes that fit: the place past them, and the target with them in their place
-abbrev pub Puts : List ℕ → ℕ → List ℕ → ℕ → List ℕ → Type 0
-Puts xs at bs next ys = (next ≡ at + length bs) × (ys ≡ written xs at bs)
 
 -- the place past a text; refusal 9 where there is no room for so many bytes
 abbrev pub textAnswer : ℕ → List ℕ → ℕ → List ℕ → Wrote

@@ -13,19 +13,16 @@ ghost use Rattle.lines.specs.Lines.{
   plainLine,
   plainMost,
   recordLine,
-  lineOf,
   lastLine,
   longest,
-  Puts,
   textAnswer,
   textTarget,
   lineAnswer,
   lineTarget,
 };
-ghost use Rattle.state.specs.Views.{eventIs};
+ghost use Rattle.lines.specs.Puts.{Puts};
 use kinds::Cid;
 use refusal::Refusal;
-use state::Event;
 use varint::Wrote;
 
 // How a replay ends.
@@ -186,30 +183,6 @@ fn put_record(number: i32, cid: Cid, out: &mut [u8], at: usize) -> usize
     }
 }
 
-// The line of an event.
-fn put_event(event: Event, input: [i32; 10], out: &mut [u8], at: usize) -> usize
-    requires { ⌜ at + longest ≤ length (now out) ⌝ }
-    ensures { λ r. ⌜ Puts (now (out .entry)) at (lineOf (eventIs event) input) r (now (out .exit)) ⌝ }
-{
-    match event {
-        Event::TickStart(t) => put_line(b"start", &[t], out, at),
-        Event::TickEnd(t) => put_line(b"end", &[t], out, at),
-        Event::PlayerNew { cid, x, y } => put_line(b"new", &[cid, x, y], out, at),
-        Event::PlayerChange {
-            cid,
-            x,
-            y,
-            old_x,
-            old_y,
-        } => { put_line(b"change", &[cid, x, y, old_x, old_y], out, at) }
-        Event::PlayerOld { cid, x, y } => put_line(b"old", &[cid, x, y], out, at),
-        Event::Input { cid, former: _ } => put_input(cid, &input, out, at),
-        Event::Record(item) => put_record(item.kind_number(), item.cid(), out, at),
-    }
-}
-
-const LONGEST: usize = 138;
-
 // Whether behind the place there is room for a word of so many bytes, so many numbers at their longest and the line's end.
 fn has_room(len: usize, at: usize, word: usize, numbers: usize) -> bool
     ensures { λ r. ⌜ r ≡ leb (at + (word + 12 * numbers + 1)) len ⌝ }
@@ -221,6 +194,13 @@ fn has_room(len: usize, at: usize, word: usize, numbers: usize) -> bool
         return false;
     }
     word < len - at - 12 * numbers
+}
+
+// Whether behind the place there is room for the longest line: `input` and eleven numbers.
+pub fn has_longest(len: usize, at: usize) -> bool
+    ensures { λ r. ⌜ r ≡ leb (at + longest) len ⌝ }
+{
+    has_room(len, at, 5, 11)
 }
 
 // A word and numbers into the target, at a place. Refused 9, with nothing changed, where they wouldn't fit with each number at its longest.
@@ -250,28 +230,10 @@ pub fn write_record(number: i32, cid: Cid, out: &mut [u8], at: usize) -> Wrote
     ensures answer { λ r. ⌜ r ≡ lineAnswer (now (out .entry)) at (recordLine number cid) ⌝ }
     ensures target { λ r. ⌜ now (out .exit) ≡ lineTarget (now (out .entry)) at (recordLine number cid) ⌝ }
 {
-    if out.len() < at {
-        return Wrote::Refused(Refusal::ShortTarget);
+    if has_longest(out.len(), at) {
+        return Wrote::Past(put_record(number, cid, out, at));
     }
-    if out.len() - at < LONGEST {
-        return Wrote::Refused(Refusal::ShortTarget);
-    }
-    Wrote::Past(put_record(number, cid, out, at))
-}
-
-// The line of an event into the target, at a place. Refused 9, with nothing changed, where the longest line wouldn't fit.
-// The ten numbers are those of an Input event; else they are not looked at.
-pub fn write_line(event: Event, input: [i32; 10], out: &mut [u8], at: usize) -> Wrote
-    ensures answer { λ r. ⌜ r ≡ lineAnswer (now (out .entry)) at (lineOf (eventIs event) input) ⌝ }
-    ensures target { λ r. ⌜ now (out .exit) ≡ lineTarget (now (out .entry)) at (lineOf (eventIs event) input) ⌝ }
-{
-    if out.len() < at {
-        return Wrote::Refused(Refusal::ShortTarget);
-    }
-    if out.len() - at < LONGEST {
-        return Wrote::Refused(Refusal::ShortTarget);
-    }
-    Wrote::Past(put_event(event, input, out, at))
+    Wrote::Refused(Refusal::ShortTarget)
 }
 
 // The last line's bytes.
@@ -291,11 +253,8 @@ pub fn write_last(ending: Ending, out: &mut [u8], at: usize) -> Wrote
     ensures answer { λ r. ⌜ r ≡ lineAnswer (now (out .entry)) at (lastLine ending) ⌝ }
     ensures target { λ r. ⌜ now (out .exit) ≡ lineTarget (now (out .entry)) at (lastLine ending) ⌝ }
 {
-    if out.len() < at {
-        return Wrote::Refused(Refusal::ShortTarget);
+    if has_longest(out.len(), at) {
+        return Wrote::Past(put_last(ending, out, at));
     }
-    if out.len() - at < LONGEST {
-        return Wrote::Refused(Refusal::ShortTarget);
-    }
-    Wrote::Past(put_last(ending, out, at))
+    Wrote::Refused(Refusal::ShortTarget)
 }

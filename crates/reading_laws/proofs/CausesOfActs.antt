@@ -16,19 +16,24 @@ use Rattle.varint.specs.declared.Remark.{Remark}
 use Rattle.varint.specs.declared.IntRead.{IntRead}
 use Rattle.varint.specs.declared.IntRead.the-variants as ints
 use Rattle.packer.specs.declared.Part.{Part}
-use Rattle.fields.specs.Fields.{num, got, dtField, andThen, readFields}
+use Rattle.fields.specs.Fields.{num, got, refused, dtField, andThen, readFields}
 use Rattle.fields.specs.Views.{numbers}
 use Rattle.item.specs.Said.{Said, gives, more, finish, refuses, refusing}
+use Rattle.kinds.specs.Kinds.{readKind}
 use Rattle.item.specs.Records.{Content, content, asContent, readRest}
+use Rattle.kinds.specs.declared.Version.{Version}
 use Rattle.kinds.specs.declared.Kind.{Kind}
 use Rattle.kinds.specs.declared.Kind.the-variants as kinds
 use Rattle.item.specs.declared.Tag.the-variants.{Plain}
 use Rattle.views.proofs.Refusals.{same-refusal}
+use Rattle.causes.proofs.Theorems.{kinds-refused, rests-refused}
 use Rattle.state.specs.State.{Memory, readerWith, goodScalars}
-use Rattle.state.specs.Reading.{Event, Step, nextTick, dtOf}
+use Rattle.state.specs.Reading.{Event, Step, nextTick, dtOf, nextKind}
 use Rattle.state.specs.Acts.{HadKind, Had, firstOf, MayRead, WhyPlain, WhyPlayer, WhyInput, Act}
 use Rattle.state.specs.Acts as act
 use Rattle.state.specs.declared.Next.the-variants.{Past}
+use Rattle.state.specs.declared.Pending.{Pending}
+use Rattle.state.specs.declared.Pending.the-variants.{Is, NoKind}
 use Rattle.state.specs.declared.Entries.{Entries}
 use Rattle.state.specs.declared.Scalars.{Scalars}
 use Rattle.state.specs.declared.Reader.{Reader}
@@ -37,8 +42,6 @@ use Rattle.state.proofs.Goods.{good-tick}
 use Rattle.state.proofs.Acts.{kind-good}
 use Rattle.reading_laws.specs.Causes.{new, old, closed, closedRaised, closedNamed, Refuses}
 use Rattle.reading_laws.specs.Causes as cause
-use Rattle.reading_laws.proofs.UnknownKinds.{kind-refused, refused-kind}
-use Rattle.reading_laws.proofs.RefusedRests.{RestRefused, byDt, byCount, byArgs, rest-refused, refused-rest}
 
 -- ---- what is no refusal
 
@@ -51,6 +54,17 @@ module _ {C : Type 0} {k : ℕ} {vs : List ℤ} where
 
   no-more : _≡_ {A = Said Event} more (refuses k vs) → C
   no-more e = let z : _≡_ {A = ℕ} 0 1 = cc in absurd (omega arith)
+
+-- ---- the kind of the next record: read where none is pending
+
+next-refused : (v : Version) (p : Pending) (w : List ℕ) (r : Refusal) → nextKind v p w ≡ refused r → (p ≡ NoKind) × (readKind v w 0 ≡ refused r)
+unfolding nextKind
+next-refused v NoKind w r e = (refl, e)
+next-refused v (Is k) w r e = let z : _≡_ {A = ℕ} 0 1 = cc in absurd (omega arith)
+
+refused-next : (v : Version) (p : Pending) (w : List ℕ) (r : Refusal) → p ≡ NoKind → readKind v w 0 ≡ refused r → nextKind v p w ≡ refused r
+unfolding nextKind
+refused-next v p w r o e = rw o e
 
 -- ---- ticks past the last
 
@@ -101,19 +115,12 @@ skip-had {n = n} h e = record { at = n; kind = h; rest = rw e }
 -- ---- causes of acts
 
 module _ (s : Scalars) (e : Entries) (w : List ℕ) (last : Bool) (g : goodScalars s ≡ true) where
-  rest-cause : {k : Kind} {n : ℕ} {r : Refusal} → HadKind s w k n → MayRead s k → RestRefused w n k r → Refuses s e w last r (closed s e)
-  rest-cause h i (byDt x) = cause.negativeDt h x
-  rest-cause {n = n} h i (byCount {vs} a x) =
-      cause.negativeNumArgs (record { from = n; kind = h; inside = i; before = vs; read = a }) x
-  rest-cause {n = n} h i (byArgs {vs} a x l y) =
-      cause.numArgsTooLarge (record { from = n; kind = h; inside = i; before = vs; read = a }) x l y
-
   plain-cause : {r : Refusal} → WhyPlain s w last r → Refuses s e w last r (closed s e)
   plain-cause (act.noMoreCome l o) = cause.unexpectedEnd l o
   plain-cause (act.kindRefused {r} x) =
-      let k = kind-refused (s .version) (s .pending) w r x in
-      subst (λ (q : Refusal). Refuses s e w last q (closed s e)) (sym (k .said)) (cause.unknownType (k .none) (k .read) (k .unknown))
-  plain-cause (act.restRefused {r} {k} {n} h i x) = rest-cause h i (rest-refused w n r k x)
+      let k = next-refused (s .version) (s .pending) w r x in
+      cause.inKind (k .0) (kinds-refused (s .version) w 0 r .0 (k .1))
+  plain-cause (act.restRefused {r} {k} {n} h i x) = cause.inRest h i (rests-refused k w n r .0 x)
   plain-cause (act.endsPast h p i b x) =
       let t = past-late (s .tick) 0 (good-tick s g) x in
       cause.endOverflow h p i b (t .is) (omega (arith, t .late))
@@ -182,13 +189,9 @@ module _ (s : Scalars) (e : Entries) (w : List ℕ) (last : Bool) where
   pub cause-act : {n : Refusal} {left : Reader} → Refuses s e w last n left → RefusingAct s e w last n left
   unfolding numbers
   cause-act (cause.unexpectedEnd l o) = as-plain refusal.UnexpectedEnd (act.noMoreCome l o)
-  cause-act (cause.unknownType {z} o i u) =
-      as-plain (refusal.UnknownType z) (act.kindRefused (refused-kind (s .version) (s .pending) w o i u))
-  cause-act (cause.negativeDt {n} h x) = as-plain refusal.NegativeDt (act.restRefused h tt (refused-rest w n (byDt x)))
-  cause-act (cause.negativeNumArgs c x) =
-      as-plain refusal.NegativeNumArgs (act.restRefused (c .kind) (c .inside) (refused-rest w (c .from) (byCount (c .read) x)))
-  cause-act (cause.numArgsTooLarge c x l y) =
-      as-plain refusal.NumArgsTooLarge (act.restRefused (c .kind) (c .inside) (refused-rest w (c .from) (byArgs (c .read) x l y)))
+  cause-act (cause.inKind {r} o x) =
+      as-plain r (act.kindRefused (refused-next (s .version) (s .pending) w r o (kinds-refused (s .version) w 0 r .1 x)))
+  cause-act (cause.inRest {k} {n} {r} h i x) = as-plain r (act.restRefused h i (rests-refused k w n r .1 x))
   cause-act (cause.invalidPlayer {c = c} h new i) = as-player refusal.InvalidClientId (negsuc c) (act.newNegative h i)
   cause-act (cause.invalidPlayer {c = c} h old i) = as-player refusal.InvalidClientId (negsuc c) (act.oldNegative h i)
   cause-act (cause.invalidInput {c = c} h k i f) = as-input refusal.InvalidClientId (negsuc c) (act.inputNegative h k i f)

@@ -1,50 +1,27 @@
 -- Each refusal of a reading call: its cause, and exactly the reader that it leaves. docs/FORMAT.md, "What a call may say".
-use Prim.Native.Nat.{ℕ, suc, _+_, _<_}
+use Prim.Native.Nat.{ℕ, _+_, _<_}
 use mathlib.Core.Path.{_≡_}
 use mathlib.Core.Bool.{Bool, true, false}
-use mathlib.Core.List.{List, [], _∷_}
+use mathlib.Core.List.{List}
 use lib.IntN.{ℤ, pos, negsuc}
-use lib.Signed.{ltZ}
 use Rattle.refusal.specs.declared.Refusal.{Refusal}
 use Rattle.refusal.specs.declared.Refusal.the-variants as refusal
 use Rattle.varint.specs.Integers.{readInt}
 use Rattle.varint.specs.declared.Remark.{Remark}
 use Rattle.varint.specs.declared.IntRead.the-variants as ints
-use Rattle.packer.specs.Parts.{readString}
 use Rattle.packer.specs.declared.Part.{Part}
-use Rattle.packer.specs.declared.PartRead.the-variants as parts
-use Rattle.fields.specs.Fields.{int, mask, str, Value, got, readFields}
 use Rattle.item.specs.Records.{Content}
-use Rattle.kinds.specs.declared.Version.{Version}
-use Rattle.kinds.specs.declared.Version.the-variants.{V1}
 use Rattle.kinds.specs.declared.Kind.{Kind}
 use Rattle.kinds.specs.declared.Kind.the-variants as kinds
 use Rattle.kinds.specs.declared.Cid.the-variants.{Of}
+use Rattle.causes.specs.Causes.{KindRefused, RestRefused}
 use Rattle.state.specs.State.{present, holds, withPlayer, readerWith, goodReader}
 use Rattle.state.specs.Reading.{closing, raising, naming, atOrBelow}
-use Rattle.state.specs.Acts.{HadKind, Had, firstOf, secondOf, PlayerKind, InputKind, MayCome, BytesRunOut}
+use Rattle.state.specs.Acts.{HadKind, Had, firstOf, secondOf, PlayerKind, InputKind, MayCome, MayRead, BytesRunOut}
 use Rattle.state.specs.declared.Pending.the-variants.{NoKind}
 use Rattle.state.specs.declared.Entries.{Entries}
 use Rattle.state.specs.declared.Scalars.{Scalars}
 use Rattle.state.specs.declared.Reader.{Reader}
-
--- a kind below -11, or -11 in version 1
-pub data UnknownKind : Version → ℤ → Type 0 where
-  below : {v : Version} {z : ℤ} → ltZ z (negsuc 10) ≡ true → UnknownKind v z
-  extensionInOne : UnknownKind V1 (negsuc 10)
-
--- a ConsoleCommand may be read, and its count stands at a place: client, flag mask and string stand before it
-pub record CountAt (s : Scalars) (w : List ℕ) (at : ℕ) : Type 0 where
-  pub from : ℕ
-  pub kind : HadKind s w kinds.ConsoleCommand from
-  pub inside : s .inside ≡ true
-  pub before : List (Value Part)
-  pub read : readFields (int ∷ mask ∷ str ∷ []) w from ≡ got before at
-
--- so many strings stand one after the other from a place on
-pub data Strings (w : List ℕ) : ℕ → ℕ → Type 0 where
-  none : {at : ℕ} → Strings w 0 at
-  one : {n at next : ℕ} {p : Part} → readString w at ≡ parts.Got p next → Strings w n next → Strings w (suc n) at
 
 -- the kind of a record that can be refused 8, and its client
 pub data NewOrOld : Kind → ℤ → Type 0 where
@@ -68,17 +45,9 @@ pub data Refuses (s : Scalars) (e : Entries) (w : List ℕ) (last : Bool) : Refu
   -- 3: the bytes needed run out, and no more come
   unexpectedEnd : last ≡ true → BytesRunOut s w → Refuses s e w last refusal.UnexpectedEnd (closed s e)
   -- 4: a kind is read, none being pending, and it is unknown
-  unknownType : {z : ℤ} {n : ℕ} {remark : Remark} → s .pending ≡ NoKind → readInt w 0 ≡ ints.Got z n remark → UnknownKind (s .version) z
-      → Refuses s e w last (refusal.UnknownType z) (closed s e)
-  -- 5: dt is negative
-  negativeDt : {n d next : ℕ} {remark : Remark} → HadKind s w kinds.TickSkip n → readInt w n ≡ ints.Got (negsuc d) next remark
-      → Refuses s e w last refusal.NegativeDt (closed s e)
-  -- 6: the count of arguments is negative
-  negativeNumArgs : {at c next : ℕ} {remark : Remark} → CountAt s w at → readInt w at ≡ ints.Got (negsuc c) next remark
-      → Refuses s e w last refusal.NegativeNumArgs (closed s e)
-  -- 7: the count is above 16, and a 17th argument string has been read
-  numArgsTooLarge : {at c next : ℕ} {remark : Remark} → CountAt s w at → readInt w at ≡ ints.Got (pos c) next remark → 16 < c
-      → Strings w 17 next → Refuses s e w last refusal.NumArgsTooLarge (closed s e)
+  inKind : {r : Refusal} → s .pending ≡ NoKind → KindRefused (s .version) w 0 r → Refuses s e w last r (closed s e)
+  -- 5 to 7: the rest of a record that may be read is refused
+  inRest : {k : Kind} {n : ℕ} {r : Refusal} → HadKind s w k n → MayRead s k → RestRefused w n k r → Refuses s e w last r (closed s e)
   -- 8: a negative client in PlayerNew or PlayerOld, in InputDiff or InputNew
   invalidPlayer : {k : Kind} {c n : ℕ} {r : Content Part} → Had s w k r n → NewOrOld k (negsuc c) → MayCome s (negsuc c)
       → Refuses s e w last refusal.InvalidClientId (closedNamed (negsuc c) s e)

@@ -1,6 +1,5 @@
 pub mod Answers
 pub mod Trips
 pub mod Determined
-pub mod Plain
 pub mod Refusals
 pub mod Theorems

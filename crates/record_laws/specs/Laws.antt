@@ -1,29 +1,25 @@
 -- What holds of the record call and of the writer's call, as statements; proofs/Theorems.antt proves each. docs/FORMAT.md, "What a call
 -- may say", "Records" and "The writer".
-use Prim.Native.Nat.{ℕ, _+_, _-_, _≤_, _<_}
+use Prim.Native.Nat.{ℕ, _+_, _-_, _≤_}
 use mathlib.Core.Path.{_≡_}
 use mathlib.Core.Bool.{Bool, true}
-use mathlib.Core.List.{List, [], _∷_, _++_}
+use mathlib.Core.List.{List, _++_}
+use mathlib.Core.Logic.{_↔_}
 use lib.ListN.{length, take, drop}
-use lib.IntN.{ℤ, pos, negsuc}
+use lib.IntN.{ℤ}
+use Rattle.refusal.specs.Numbers.{numberOf, valuesOf}
 use Rattle.refusal.specs.Said.{refuses}
-use Rattle.varint.specs.Integers.{readInt}
+use Rattle.refusal.specs.declared.Refusal.{Refusal}
+use Rattle.refusal.specs.declared.Refusal.the-variants.{UnexpectedEnd}
 use Rattle.varint.specs.Laws.{Bytes}
-use Rattle.varint.specs.declared.Remark.{Remark}
-use Rattle.varint.specs.declared.IntRead.the-variants as ints
 use Rattle.varint.specs.declared.Wrote.{Wrote}
 use Rattle.varint.specs.declared.Wrote.the-variants.{Past}
-use Rattle.packer.specs.Parts.{readString}
-use Rattle.packer.specs.declared.Part.{Part}
-use Rattle.packer.specs.declared.PartRead.the-variants as parts
-use Rattle.fields.specs.Fields.{int, mask, str, Value, got, runsOut, argsFrom, readFields}
-use Rattle.kinds.specs.Kinds.{readKind}
+use Rattle.fields.specs.Fields.{runsOut}
 use Rattle.item.specs.Records.{meaning, readRecord, recordCall, recordRemarks}
 use Rattle.item.specs.Contents.{recordOf}
 use Rattle.kinds.specs.declared.Version.{Version}
-use Rattle.kinds.specs.declared.Version.the-variants.{V1}
-use Rattle.kinds.specs.declared.Kind.the-variants as kinds
 use Rattle.item.specs.declared.Record.{Record}
+use Rattle.causes.specs.Causes.{RecordRefused}
 use Rattle.records.specs.Calls.{Called}
 use Rattle.records.specs.declared.CallAnswer.the-variants.{Got}
 use Rattle.records.specs.declared.RecordCall.{RecordCall}
@@ -62,49 +58,23 @@ WriteDetermined =
     (v : Version) (s : List ℕ) (r : Record) (xs : List ℕ) (at : ℕ) (a b : Wrote) (ys zs : List ℕ)
     → Writes v s r xs at a ys → Writes v s r xs at b zs → (a ≡ b) × (ys ≡ zs)
 
--- ---- the record call refuses 3 to 7 only
+-- ---- the record call refuses 3 to 7 only, each exactly for its cause
 
--- no kind: below -11, or -11 in version 1
-pub data NoKind (v : Version) (z : ℤ) : Type 0 where
-  below : (m : ℕ) → z ≡ negsuc (11 + m) → NoKind v z
-  extension-in-1 : z ≡ negsuc 10 → v ≡ V1 → NoKind v z
+pub data Cause (v : Version) (s : List ℕ) (last : Bool) : Refusal → Type 0 where
+  -- 3: the bytes run out, and no more come
+  unexpectedEnd : last ≡ true → readRecord v s 0 ≡ runsOut → Cause v s last UnexpectedEnd
+  -- 4 to 7: the kind or the rest of the record is refused
+  inRecord : {r : Refusal} → RecordRefused v s r → Cause v s last r
 
--- the integer at a place
-abbrev pub Reads : List ℕ → ℕ → ℤ → ℕ → Remark → Type 0
-Reads s at z next remark = readInt s at ≡ ints.Got z next remark
-
--- a command's client, flag mask and string, behind its kind; next is the place of the count
-pub record Command (v : Version) (s : List ℕ) (next : ℕ) : Type 0 where
-  pub start : ℕ
-  pub values : List (Value Part)
-  pub kind : readKind v s 0 ≡ got kinds.ConsoleCommand start
-  pub head : readFields (int ∷ mask ∷ str ∷ []) s start ≡ got values next
-
--- 16 strings stand at a place, and a 17th behind them
-pub record Seventeenth (s : List ℕ) (at : ℕ) : Type 0 where
-  pub sixteen : List Part
-  pub place : ℕ
-  pub last : Part
-  pub next : ℕ
-  pub before : argsFrom 16 s [] at ≡ got sixteen place
-  pub one-more : readString s place ≡ parts.Got last next
-
--- why a call refuses, with the number and the values of the refusal
-pub data Cause (v : Version) (s : List ℕ) (last : Bool) (n : ℕ) (vs : List ℤ) : Type 0 where
-  unexpected-end : n ≡ 3 → vs ≡ [] → last ≡ true → readRecord v s 0 ≡ runsOut → Cause v s last n vs
-  unknown-type : (z : ℤ) (next : ℕ) (remark : Remark) → n ≡ 4 → vs ≡ z ∷ [] → Reads s 0 z next remark → NoKind v z → Cause v s last n vs
-  negative-dt :
-      (at d next : ℕ) (remark : Remark) → n ≡ 5 → vs ≡ [] → readKind v s 0 ≡ got kinds.TickSkip at → Reads s at (negsuc d) next remark
-      → Cause v s last n vs
-  negative-num-args :
-      (at m next : ℕ) (remark : Remark) → n ≡ 6 → vs ≡ [] → Command v s at → Reads s at (negsuc m) next remark → Cause v s last n vs
-  num-args-too-large :
-      (at count next : ℕ) (remark : Remark) → n ≡ 7 → vs ≡ [] → Command v s at → Reads s at (pos count) next remark → 16 < count
-      → Seventeenth s next
-      → Cause v s last n vs
+-- the number and the values that the call says are those of a refusal that has its cause
+pub record Caused (v : Version) (s : List ℕ) (last : Bool) (n : ℕ) (vs : List ℤ) : Type 0 where
+  pub refusal : Refusal
+  pub number : n ≡ numberOf refusal
+  pub values : vs ≡ valuesOf refusal
+  pub cause : Cause v s last refusal
 
 abbrev pub RecordRefuses : Type 0
-RecordRefuses = (v : Version) (s : List ℕ) (last : Bool) (n : ℕ) (vs : List ℤ) → recordCall v s last ≡ refuses n vs → Cause v s last n vs
+RecordRefuses = (v : Version) (s : List ℕ) (last : Bool) (n : ℕ) (vs : List ℤ) → (recordCall v s last ≡ refuses n vs) ↔ Caused v s last n vs
 
 abbrev pub ThreeToSeven : Type 0
 ThreeToSeven = (v : Version) (s : List ℕ) (last : Bool) (n : ℕ) (vs : List ℤ) → recordCall v s last ≡ refuses n vs → (3 ≤ n) × (n ≤ 7)

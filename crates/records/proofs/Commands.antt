@@ -27,7 +27,8 @@ use Rattle.fields.specs.Fields.{
   andThen,
   readFields,
 }
-use Rattle.fields.specs.Views.{zeros, argsWith, argsRead, fieldParts}
+use Rattle.fields.specs.Views.{zeros, argsWith}
+use Rattle.fields.specs.Reads.{argsRead, fieldParts}
 use Rattle.fields.specs.declared.ArgsAnswer.{ArgsAnswer}
 use Rattle.fields.specs.declared.ArgsAnswer.the-variants as arguments
 use Rattle.fields.specs.declared.ArgsRead.{ArgsRead}

@@ -11,7 +11,8 @@ use Rattle.varint.specs.declared.IntRead.{IntRead}
 use Rattle.varint.specs.declared.IntRead.the-variants as ints
 use Rattle.packer.specs.declared.Part.{Part}
 use Rattle.fields.specs.Fields.{int, Value, num, Reading, got, runsOut, refused, intField, push, andThen, readFields}
-use Rattle.fields.specs.Views.{inputFields, numbers, inputRead}
+use Rattle.fields.specs.Views.{inputFields, numbers}
+use Rattle.fields.specs.Reads.{inputRead}
 use Rattle.fields.specs.declared.InputAnswer.{InputAnswer}
 use Rattle.fields.specs.declared.InputAnswer.the-variants as inputs
 use Rattle.fields.specs.declared.InputRead.{InputRead}

@@ -25,45 +25,30 @@ use Rattle.refusal.specs.declared.Refusal.the-variants.{
   NotLast,
 }
 
+abbrev pub numbered : Refusal → ℕ × List ℤ
+numbered WrongMagic = (1, [])
+numbered UnknownVersion = (2, [])
+numbered UnexpectedEnd = (3, [])
+numbered (UnknownType kind) = (4, kind ∷ [])
+numbered NegativeDt = (5, [])
+numbered NegativeNumArgs = (6, [])
+numbered NumArgsTooLarge = (7, [])
+numbered InvalidClientId = (8, [])
+numbered ShortTarget = (9, [])
+numbered ClientTooLarge = (10, [])
+numbered Unwritable = (11, [])
+numbered TickOverflow = (12, [])
+numbered PlayerNewDuplicate = (13, [])
+numbered PlayerDiffWithoutNew = (14, [])
+numbered PlayerOldWithoutNew = (15, [])
+numbered InputDiffWithoutNew = (16, [])
+numbered BadState = (17, [])
+numbered Closed = (18, [])
+numbered NotLast = (19, [])
+
 abbrev pub numberOf : Refusal → ℕ
-numberOf WrongMagic = 1
-numberOf UnknownVersion = 2
-numberOf UnexpectedEnd = 3
-numberOf (UnknownType kind) = 4
-numberOf NegativeDt = 5
-numberOf NegativeNumArgs = 6
-numberOf NumArgsTooLarge = 7
-numberOf InvalidClientId = 8
-numberOf ShortTarget = 9
-numberOf ClientTooLarge = 10
-numberOf Unwritable = 11
-numberOf TickOverflow = 12
-numberOf PlayerNewDuplicate = 13
-numberOf PlayerDiffWithoutNew = 14
-numberOf PlayerOldWithoutNew = 15
-numberOf InputDiffWithoutNew = 16
-numberOf BadState = 17
-numberOf Closed = 18
-numberOf NotLast = 19
+numberOf r = numbered r .0
 
 -- the values that come with a refusal: the kind with 4
 abbrev pub valuesOf : Refusal → List ℤ
-valuesOf WrongMagic = []
-valuesOf UnknownVersion = []
-valuesOf UnexpectedEnd = []
-valuesOf (UnknownType kind) = kind ∷ []
-valuesOf NegativeDt = []
-valuesOf NegativeNumArgs = []
-valuesOf NumArgsTooLarge = []
-valuesOf InvalidClientId = []
-valuesOf ShortTarget = []
-valuesOf ClientTooLarge = []
-valuesOf Unwritable = []
-valuesOf TickOverflow = []
-valuesOf PlayerNewDuplicate = []
-valuesOf PlayerDiffWithoutNew = []
-valuesOf PlayerOldWithoutNew = []
-valuesOf InputDiffWithoutNew = []
-valuesOf BadState = []
-valuesOf Closed = []
-valuesOf NotLast = []
+valuesOf r = numbered r .1

@@ -28,8 +28,8 @@ use Rattle.lines.specs.Lines.{
   recordLine,
   lineOf,
   longest,
-  Puts,
 }
+use Rattle.lines.specs.Puts.{Puts}
 use Rattle.lines.proofs.Texts.{same-text}
 use Rattle.replayer.specs.Rows.{Tries, TriesPlain, cidTold, clientAnd, recordTold, Told}
 

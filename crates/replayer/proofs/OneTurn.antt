@@ -16,7 +16,8 @@ use Rattle.state.specs.declared.Reader.{Reader}
 use Rattle.many.specs.Many.{Seen, Halt, isFull, wantsMore, finishes, isRefused, Run, calls, manyCalls, haltOf, room, rowsFrom, tensFrom, Tells}
 use Rattle.many.specs.declared.ManyAnswer.{ManyAnswer}
 use Rattle.many.proofs.Edges.{with-room}
-use Rattle.lines.specs.Lines.{longest, Puts, refusedWord}
+use Rattle.lines.specs.Lines.{longest, refusedWord}
+use Rattle.lines.specs.Puts.{Puts}
 use Rattle.lines.proofs.Texts.{line-fits}
 use Rattle.replayer.specs.Replay.{full, windowOf, isShort, isLast, textOf, ends, endingOf, wants, runText, turnRoom, turnRun, noTurn, Turns}
 use Rattle.replayer.specs.Rows.{AllTold, PutsLines}

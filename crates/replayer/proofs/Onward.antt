@@ -9,7 +9,8 @@ use lib.IntN.{ℤ}
 use Rattle.varint.specs.Written.{written}
 use Rattle.packer.proofs.Joined.{joined, nothing-put}
 use Rattle.many.specs.Many.{Seen}
-use Rattle.lines.specs.Lines.{lineOf, longest, Puts}
+use Rattle.lines.specs.Lines.{lineOf, longest}
+use Rattle.lines.specs.Puts.{Puts}
 use Rattle.lines.proofs.Texts.{line-le}
 use Rattle.replayer.specs.Replay.{textOf}
 use Rattle.replayer.specs.Rows.{AllTold, PutsLine}

@@ -11,7 +11,8 @@ use Rattle.kinds.specs.declared.Cid.{Cid}
 use Rattle.kinds.specs.declared.Cid.the-variants.{Of, NoCid}
 use Rattle.state.specs.State.{same}
 use Rattle.many.specs.Many.{Seen, rowOf, tensOf}
-use Rattle.lines.specs.Lines.{plainLine, plainMost, recordLine, lineOf, longest, Puts, textAnswer, textTarget}
+use Rattle.lines.specs.Lines.{plainLine, plainMost, recordLine, lineOf, longest, textAnswer, textTarget}
+use Rattle.lines.specs.Puts.{Puts}
 use Rattle.replayer.specs.Replay.{textOf}
 
 -- the place past what was written, else the place itself

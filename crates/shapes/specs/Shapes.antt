@@ -1,15 +1,20 @@
--- The field sequences that records share, and what stands in the code's fields for each.
+-- Inner: the field sequences that records share, what stands in the code's fields for each, and how they are read.
 use Prim.Native.Nat.{ℕ, _+_}
 use mathlib.Core.Path.{_≡_}
-use mathlib.Core.Bool.{cond}
+use mathlib.Core.Bool.{Bool, true, false, cond}
 use mathlib.Core.List.{List, [], _∷_}
+use lib.ListN.{drop}
 use lib.Dec.{leb}
 use lib.IntN.{ℤ, pos}
 use mir.Syntax.{w32}
 use mir.Val.{ofZ}
-use Rattle.packer.specs.Parts.{part}
+use Rattle.varint.specs.declared.IntRead.{IntRead}
+use Rattle.varint.specs.declared.IntRead.the-variants as ints
+use Rattle.packer.specs.Parts.{part, readString}
 use Rattle.packer.specs.declared.Part.{Part}
-use Rattle.fields.specs.Fields.{Field, int, dt, mask, str, uuid, blob, args, Value, num, bytes, Reading, got, runsOut, readFields}
+use Rattle.packer.specs.declared.PartRead.{PartRead}
+use Rattle.packer.specs.declared.PartRead.the-variants as parts
+use Rattle.fields.specs.Fields.{Field, int, dt, mask, str, uuid, blob, args, Value, num, bytes, Reading, got, runsOut, push, readFields}
 use Rattle.fields.specs.Views.{noPart}
 use Rattle.shapes.specs.declared.Shape.{Shape}
 use Rattle.shapes.specs.declared.Shape.the-variants.{Nothing, Int, IntInt, IntStr, IntIntStr, IntUuidStr, IntUuidIntStr, IntData}
@@ -99,10 +104,48 @@ abbrev pub tidied : Shape → FieldsRead → FieldsRead
 tidied shape (code.Got f next) = code.Got (tidyFields (fieldsIn shape) f) next
 tidied shape code.RunsOut = code.RunsOut
 
--- the shape's fields are read as the definition reads them, and the others are blank
-pub record Read (shape : Shape) (s : List ℕ) (at : ℕ) (r : FieldsRead) : Type 0 where
-  pub values : viewed shape r ≡ readFields (fieldsIn shape) s at
+-- the code's fields show what was read, and the fields that the shape lacks are blank
+pub record Shows (shape : Shape) (r : FieldsRead) (x : Reading (List (Value Part))) : Type 0 where
+  pub values : viewed shape r ≡ x
   pub blank : tidied shape r ≡ r
+
+-- the shape's fields are read as the definition reads them
+abbrev pub Read : Shape → List ℕ → ℕ → FieldsRead → Type 0
+Read shape s at r = Shows shape r (readFields (fieldsIn shape) s at)
+
+-- ---- the steps of it
+
+abbrev pub isNothing : Shape → Bool
+isNothing Nothing = true
+isNothing Int = false
+isNothing IntInt = false
+isNothing IntStr = false
+isNothing IntIntStr = false
+isNothing IntUuidStr = false
+isNothing IntUuidIntStr = false
+isNothing IntData = false
+
+-- behind the first number
+abbrev pub Rest : Shape → ℤ → List ℕ → ℕ → FieldsRead → Type 0
+Rest shape first s at r = Shows shape r (push (num first) (readFields (drop 1 (fieldsIn shape)) s at))
+
+-- what a number that was read goes on to, and a part
+abbrev pub onInt : IntRead → (ℤ → ℕ → FieldsRead) → FieldsRead
+onInt (ints.Got z next remark) k = k z next
+onInt ints.RunsOut k = code.RunsOut
+
+abbrev pub onPart : PartRead → (Part → ℕ → FieldsRead) → FieldsRead
+onPart (parts.Got p next) k = k p next
+onPart parts.RunsOut k = code.RunsOut
+
+abbrev pub numbersRead : ℤ → ℤ → ℕ → FieldsRead
+numbersRead a b next = code.Got (fieldsWith a b 0 noPart) next
+
+abbrev pub textRead : ℤ → ℤ → ℕ → PartRead → FieldsRead
+textRead a b id x = onPart x (λ t next. code.Got (fieldsWith a b id t) next)
+
+abbrev pub secondRead : ℤ → ℕ → Bool → List ℕ → IntRead → FieldsRead
+secondRead a id string s x = onInt x (λ b next. cond string (textRead a b id (readString s next)) (numbersRead a b next))
 
 -- two numbers
 abbrev pub pairIs : PairRead → Reading (List (Value Part))

@@ -1,7 +1,9 @@
-// The field sequences that records share: each is read by one function.
+// The field sequences that records share, and how they are read.
 ghost use mathlib.Core.Path.{_≡_};
 ghost use Rattle.fields.specs.Fields.{readFields};
-ghost use Rattle.shapes.specs.Shapes.{fieldsIn, pairIs, Read};
+ghost use mathlib.Core.Bool.{false};
+ghost use Rattle.varint.specs.Integers.{readInt};
+ghost use Rattle.shapes.specs.Shapes.{fieldsIn, pairIs, isNothing, numbersRead, textRead, secondRead, Rest, Read};
 use packer::Part;
 use packer::PartRead;
 use varint::IntRead;
@@ -43,28 +45,6 @@ pub enum PairRead {
 
 const NO_PART: Part = Part { at: 0, len: 0 };
 
-fn read_int(s: &[u8], at: usize) -> FieldsRead
-    ensures { λ r. ⌜ Read Shape.Int (now (s .entry)) at r ⌝ }
-{
-    let IntRead::Got {
-        value: first,
-        next,
-        remark: _,
-    } = varint::read_int(s, at)
-    else {
-        return FieldsRead::RunsOut;
-    };
-    FieldsRead::Got {
-        fields: Fields {
-            first,
-            second: 0,
-            uuid: 0,
-            text: NO_PART,
-        },
-        next,
-    }
-}
-
 // Two numbers.
 pub fn read_pair(s: &[u8], at: usize) -> PairRead
     ensures { λ r. ⌜ pairIs r ≡ readFields (fieldsIn Shape.IntInt) (now (s .entry)) at ⌝ }
@@ -92,17 +72,10 @@ pub fn read_pair(s: &[u8], at: usize) -> PairRead
     }
 }
 
-fn read_int_int(s: &[u8], at: usize) -> FieldsRead
-    ensures { λ r. ⌜ Read Shape.IntInt (now (s .entry)) at r ⌝ }
+// The fields of a shape that ends in no text.
+fn no_text(first: i32, second: i32, next: usize) -> FieldsRead
+    ensures { λ r. ⌜ r ≡ numbersRead first second next ⌝ }
 {
-    let PairRead::Got {
-        first,
-        second,
-        next,
-    } = read_pair(s, at)
-    else {
-        return FieldsRead::RunsOut;
-    };
     FieldsRead::Got {
         fields: Fields {
             first,
@@ -114,123 +87,11 @@ fn read_int_int(s: &[u8], at: usize) -> FieldsRead
     }
 }
 
-fn read_int_str(s: &[u8], at: usize) -> FieldsRead
-    ensures { λ r. ⌜ Read Shape.IntStr (now (s .entry)) at r ⌝ }
+// The fields of a shape that ends in a string or data.
+fn with_text(first: i32, second: i32, uuid: usize, text: PartRead) -> FieldsRead
+    ensures { λ r. ⌜ r ≡ textRead first second uuid text ⌝ }
 {
-    let IntRead::Got {
-        value: first,
-        next: at_text,
-        remark: _,
-    } = varint::read_int(s, at)
-    else {
-        return FieldsRead::RunsOut;
-    };
-    let PartRead::Got { part: text, next } = packer::read_string(s, at_text) else {
-        return FieldsRead::RunsOut;
-    };
-    FieldsRead::Got {
-        fields: Fields {
-            first,
-            second: 0,
-            uuid: 0,
-            text,
-        },
-        next,
-    }
-}
-
-fn read_int_int_str(s: &[u8], at: usize) -> FieldsRead
-    ensures { λ r. ⌜ Read Shape.IntIntStr (now (s .entry)) at r ⌝ }
-{
-    let IntRead::Got {
-        value: first,
-        next: at_second,
-        remark: _,
-    } = varint::read_int(s, at)
-    else {
-        return FieldsRead::RunsOut;
-    };
-    let IntRead::Got {
-        value: second,
-        next: at_text,
-        remark: _,
-    } = varint::read_int(s, at_second)
-    else {
-        return FieldsRead::RunsOut;
-    };
-    let PartRead::Got { part: text, next } = packer::read_string(s, at_text) else {
-        return FieldsRead::RunsOut;
-    };
-    FieldsRead::Got {
-        fields: Fields {
-            first,
-            second,
-            uuid: 0,
-            text,
-        },
-        next,
-    }
-}
-
-fn read_int_uuid_str(s: &[u8], at: usize) -> FieldsRead
-    ensures { λ r. ⌜ Read Shape.IntUuidStr (now (s .entry)) at r ⌝ }
-{
-    let IntRead::Got {
-        value: first,
-        next: uuid,
-        remark: _,
-    } = varint::read_int(s, at)
-    else {
-        return FieldsRead::RunsOut;
-    };
-    let PartRead::Got {
-        part: _,
-        next: at_text,
-    } = packer::read_raw(s, uuid, 16)
-    else {
-        return FieldsRead::RunsOut;
-    };
-    let PartRead::Got { part: text, next } = packer::read_string(s, at_text) else {
-        return FieldsRead::RunsOut;
-    };
-    FieldsRead::Got {
-        fields: Fields {
-            first,
-            second: 0,
-            uuid,
-            text,
-        },
-        next,
-    }
-}
-
-fn read_int_uuid_int_str(s: &[u8], at: usize) -> FieldsRead
-    ensures { λ r. ⌜ Read Shape.IntUuidIntStr (now (s .entry)) at r ⌝ }
-{
-    let IntRead::Got {
-        value: first,
-        next: uuid,
-        remark: _,
-    } = varint::read_int(s, at)
-    else {
-        return FieldsRead::RunsOut;
-    };
-    let PartRead::Got {
-        part: _,
-        next: at_second,
-    } = packer::read_raw(s, uuid, 16)
-    else {
-        return FieldsRead::RunsOut;
-    };
-    let IntRead::Got {
-        value: second,
-        next: at_text,
-        remark: _,
-    } = varint::read_int(s, at_second)
-    else {
-        return FieldsRead::RunsOut;
-    };
-    let PartRead::Got { part: text, next } = packer::read_string(s, at_text) else {
+    let PartRead::Got { part: text, next } = text else {
         return FieldsRead::RunsOut;
     };
     FieldsRead::Got {
@@ -244,28 +105,63 @@ fn read_int_uuid_int_str(s: &[u8], at: usize) -> FieldsRead
     }
 }
 
-fn read_int_data(s: &[u8], at: usize) -> FieldsRead
-    ensures { λ r. ⌜ Read Shape.IntData (now (s .entry)) at r ⌝ }
+// The second number, and a string behind it where the shape has one.
+fn read_second(first: i32, uuid: usize, string: bool, s: &[u8], at: usize) -> FieldsRead
+    ensures { λ r. ⌜ r ≡ secondRead first uuid string (now (s .entry)) (readInt (now (s .entry)) at) ⌝ }
 {
     let IntRead::Got {
-        value: first,
-        next: at_text,
+        value: second,
+        next,
         remark: _,
     } = varint::read_int(s, at)
     else {
         return FieldsRead::RunsOut;
     };
-    let PartRead::Got { part: text, next } = packer::read_data(s, at_text) else {
-        return FieldsRead::RunsOut;
-    };
-    FieldsRead::Got {
-        fields: Fields {
-            first,
-            second: 0,
-            uuid: 0,
-            text,
-        },
-        next,
+    if string {
+        return with_text(first, second, uuid, packer::read_string(s, next));
+    }
+    no_text(first, second, next)
+}
+
+fn is_nothing(shape: Shape) -> bool
+    ensures { λ r. ⌜ r ≡ isNothing shape ⌝ }
+{
+    match shape {
+        Shape::Nothing => true,
+        Shape::Int => false,
+        Shape::IntInt => false,
+        Shape::IntStr => false,
+        Shape::IntIntStr => false,
+        Shape::IntUuidStr => false,
+        Shape::IntUuidIntStr => false,
+        Shape::IntData => false,
+    }
+}
+
+// What follows the first number.
+fn read_rest(shape: Shape, first: i32, s: &[u8], at: usize) -> FieldsRead
+    requires { ⌜ isNothing shape ≡ false ⌝ }
+    ensures { λ r. ⌜ Rest shape first (now (s .entry)) at r ⌝ }
+{
+    match shape {
+        Shape::Nothing => FieldsRead::RunsOut,
+        Shape::Int => no_text(first, 0, at),
+        Shape::IntInt => read_second(first, 0, false, s, at),
+        Shape::IntStr => with_text(first, 0, 0, packer::read_string(s, at)),
+        Shape::IntIntStr => read_second(first, 0, true, s, at),
+        Shape::IntUuidStr => {
+            let PartRead::Got { part: _, next } = packer::read_raw(s, at, 16) else {
+                return FieldsRead::RunsOut;
+            };
+            with_text(first, 0, at, packer::read_string(s, next))
+        }
+        Shape::IntUuidIntStr => {
+            let PartRead::Got { part: _, next } = packer::read_raw(s, at, 16) else {
+                return FieldsRead::RunsOut;
+            };
+            read_second(first, at, true, s, next)
+        }
+        Shape::IntData => with_text(first, 0, 0, packer::read_data(s, at)),
     }
 }
 
@@ -273,22 +169,16 @@ fn read_int_data(s: &[u8], at: usize) -> FieldsRead
 pub fn read_shape(shape: Shape, s: &[u8], at: usize) -> FieldsRead
     ensures { λ r. ⌜ Read shape (now (s .entry)) at r ⌝ }
 {
-    match shape {
-        Shape::Nothing => FieldsRead::Got {
-            fields: Fields {
-                first: 0,
-                second: 0,
-                uuid: 0,
-                text: NO_PART,
-            },
-            next: at,
-        },
-        Shape::Int => read_int(s, at),
-        Shape::IntInt => read_int_int(s, at),
-        Shape::IntStr => read_int_str(s, at),
-        Shape::IntIntStr => read_int_int_str(s, at),
-        Shape::IntUuidStr => read_int_uuid_str(s, at),
-        Shape::IntUuidIntStr => read_int_uuid_int_str(s, at),
-        Shape::IntData => read_int_data(s, at),
+    if is_nothing(shape) {
+        return no_text(0, 0, at);
     }
+    let IntRead::Got {
+        value: first,
+        next,
+        remark: _,
+    } = varint::read_int(s, at)
+    else {
+        return FieldsRead::RunsOut;
+    };
+    read_rest(shape, first, s, next)
 }

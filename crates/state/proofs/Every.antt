@@ -1,9 +1,10 @@
 -- Tests joined by `&&`, tests at every place below a number, and what holds of both things that a test picks from.
 -- Assumes nothing.
-use Prim.Native.Nat.{ℕ, zero, suc, _<_}
+use Prim.Native.Nat.{ℕ, zero, suc, _+_, _<_}
 use mathlib.Core.Path.{_≡_, refl}
 use mathlib.Core.Bool.{Bool, true, false, cond, _&&_}
 use native.Mathlib.Omega.{arith}
+use native.Mathlib.Numerals.{add-one}
 use Rattle.fields.proofs.Answers.{and-both}
 use Rattle.state.specs.State.{every}
 
@@ -30,3 +31,21 @@ every-map zero p q f e = refl
 every-map (suc n) p q f e =
     and-both (q n) (every n q) (f n (omega arith) (left-of (p n) (every n p) e))
     (every-map n p q (λ i h. f i (omega arith)) (right-of (p n) (every n p) e))
+
+pub every-same : (n : ℕ) {p q : ℕ → Bool} → ((i : ℕ) → i < n → p i ≡ q i) → every n p ≡ every n q
+unfolding every
+every-same zero f = refl
+every-same (suc n) f = rw (f n (omega arith), every-same n (λ i h. f i (omega arith)))
+
+-- ---- a loop that tests one place after the other
+
+pub none-yet : (p : ℕ → Bool) → true ≡ every 0 p
+unfolding every
+none-yet p = refl
+
+pub one-more : (p : ℕ → Bool) (i : ℕ) (t g r : Bool) → t ≡ p i → g ≡ every i p → r ≡ (t && g) → r ≡ every (i + 1) p
+unfolding every
+one-more p i t g r et eg er = rw (add-one, ← et, ← eg) er
+
+pub all-tested : (p : ℕ → Bool) {n i : ℕ} {g : Bool} → g ≡ every i p → i ≡ n → g ≡ every n p
+all-tested p e h = rw (← h) e

@@ -12,7 +12,8 @@ use Rattle.varint.specs.declared.IntRead.{IntRead}
 use Rattle.varint.specs.declared.IntRead.the-variants as ints
 use Rattle.packer.specs.declared.Part.{Part}
 use Rattle.fields.specs.Fields.{Value, Reading, got, runsOut, refused, dtField, andThen, readFields}
-use Rattle.fields.specs.Views.{numbers, inputFields, inputRead}
+use Rattle.fields.specs.Views.{numbers, inputFields}
+use Rattle.fields.specs.Reads.{inputRead}
 use Rattle.fields.specs.declared.InputAnswer.{InputAnswer}
 use Rattle.fields.specs.declared.InputAnswer.the-variants as inputs
 use Rattle.fields.specs.declared.InputRead.{InputRead}

@@ -27,7 +27,7 @@ fn print_start(line: &[u8], n: usize) {
 
 fn print_line(event: Event, input: [i32; 10]) {
     let mut line = [0u8; 256];
-    let Wrote::Past(n) = lines::write_line(event, input, &mut line, 0) else {
+    let Wrote::Past(n) = event_lines::write_line(event, input, &mut line, 0) else {
         return;
     };
     print_start(&line, n);

@@ -5,11 +5,15 @@ use mathlib.Core.Path.{_≡_, _∙_}
 use mathlib.Core.Bool.{true}
 use mathlib.Core.List.{List, [], _∷_, map}
 use lib.ListN.{length}
+use lib.IntN.{ℤ}
+use mir.Syntax.{w32}
+use mir.Val.{SFits}
 use borrow.Author.Tests.{leb-true}
+use Rattle.packer.specs.Parts.{shown}
 use Rattle.packer.specs.declared.Part.{Part}
 use Rattle.packer.proofs.Parts.{shown-length}
-use Rattle.fields.specs.Fields.{Field, int, dt, mask, str, uuid, blob, args, Value, num, bytes, strings, mean}
-use Rattle.fields.specs.Writing.{Sorted, AllSorted, valueInside, partsInside}
+use Rattle.fields.specs.Fields.{Field, int, dt, mask, str, uuid, blob, args, Value, num, bytes, strings, onNum, onBytes, onStrings, mean}
+use Rattle.fields.specs.Writing.{natural32, SortOf, Sorted, AllSorted, inside, valueInside, partsInside}
 use Rattle.fields.proofs.Answers.{and-split}
 use Rattle.item.specs.declared.Tag.{Tag}
 use Rattle.item.specs.declared.Tag.the-variants.{Plain, Named, Other}
@@ -17,32 +21,37 @@ use Rattle.extensions.specs.Extensions.{payloadAt}
 use Rattle.item.specs.Records.{restOf}
 use Rattle.item.specs.Contents.{ownPayload}
 use Rattle.written.specs.Written.{allFields}
-use Rattle.written.specs.Laws.{Typed, AllTyped, TypedContent}
+use Rattle.written.specs.Laws.{AllTyped, TypedContent}
 use Rattle.written.proofs.Back.{SortedContent}
 
 module _ (s : List ℕ) where
-  typed : (f : Field) (v : Value Part) → Typed f v → valueInside s v ≡ true → Sorted f (mean s v)
-  typed int (num z) t i = t
-  typed int (bytes p) t i = absurd t
-  typed int (strings ps) t i = absurd t
-  typed dt (num z) t i = t
-  typed dt (bytes p) t i = absurd t
-  typed dt (strings ps) t i = absurd t
-  typed mask (num z) t i = t
-  typed mask (bytes p) t i = absurd t
-  typed mask (strings ps) t i = absurd t
-  typed str (num z) t i = absurd t
-  typed str (bytes p) t i = tt
-  typed str (strings ps) t i = absurd t
-  typed uuid (num z) t i = absurd t
-  typed uuid (bytes p) t i = shown-length s (p .at) (p .len) (leb-true (p .at + p .len) (length s) i) ∙ t
-  typed uuid (strings ps) t i = absurd t
-  typed blob (num z) t i = absurd t
-  typed blob (bytes p) t i = tt
-  typed blob (strings ps) t i = absurd t
-  typed args (num z) t i = absurd t
-  typed args (bytes p) t i = absurd t
-  typed args (strings ps) t i = tt
+  -- what holds of a value that is a number, bytes or strings
+  number : (P : ℤ → Type 0) (v : Value Part) → onNum ⊥ P v → onNum ⊥ P (mean s v)
+  number P (num z) t = t
+  number P (bytes p) t = t
+  number P (strings ps) t = t
+
+  part : (P : Part → Type 0) (Q : List ℕ → Type 0) (v : Value Part) → valueInside s v ≡ true → ((p : Part) → inside s p ≡ true → P p → Q (shown s p))
+      → onBytes ⊥ P v → onBytes ⊥ Q (mean s v)
+  part P Q (num z) i f t = t
+  part P Q (bytes p) i f t = f p i t
+  part P Q (strings ps) i f t = t
+
+  parts : (v : Value Part) → onStrings ⊥ (λ ps. Unit) v → onStrings ⊥ (λ bs. Unit) (mean s v)
+  parts (num z) t = t
+  parts (bytes p) t = t
+  parts (strings ps) t = tt
+
+  typed : (f : Field) (v : Value Part) → SortOf (λ p. p .len) f v → valueInside s v ≡ true → Sorted f (mean s v)
+  typed int v t i = number (SFits w32) v t
+  typed dt v t i = number natural32 v t
+  typed mask v t i = number natural32 v t
+  typed str v t i = part (λ p. Unit) (λ b. Unit) v i (λ p j u. tt) t
+  typed uuid v t i =
+      part (λ p. p .len ≡ 16) (λ b. length b ≡ 16) v i
+      (λ p j e. shown-length s (p .at) (p .len) (leb-true (p .at + p .len) (length s) j) ∙ e) t
+  typed blob v t i = part (λ p. Unit) (λ b. Unit) v i (λ p j u. tt) t
+  typed args v t i = parts v t
 
   all-typed : (fs : List Field) (vs : List (Value Part)) → AllTyped fs vs → partsInside s vs ≡ true → AllSorted fs (map (mean s) vs)
   all-typed [] [] t i = tt

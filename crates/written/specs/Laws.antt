@@ -8,8 +8,8 @@ use mir.Syntax.{w32}
 use mir.Val.{SFits}
 use Rattle.varint.specs.Laws.{Bytes, Steady, Shorter}
 use Rattle.packer.specs.declared.Part.{Part}
-use Rattle.fields.specs.Fields.{Field, int, dt, mask, str, uuid, blob, args, Value, num, bytes, strings, Reading, got, runsOut, refused}
-use Rattle.fields.specs.Writing.{natural32, partsInside}
+use Rattle.fields.specs.Fields.{Field, uuid, blob, Value, Reading, got, runsOut, refused}
+use Rattle.fields.specs.Writing.{SortsOf, partsInside}
 use Rattle.fields.specs.Laws.{isOut}
 use Rattle.item.specs.Said.{gives, more}
 use Rattle.extensions.specs.Extensions.{payloadAt}
@@ -31,34 +31,8 @@ meant s (refused r) = refused r
 
 -- ---- the numbers of a record have 32 bits, as in every record that a program holds
 
-abbrev pub Typed : Field → Value Part → Type 0
-Typed int (num z) = SFits w32 z
-Typed int (bytes p) = ⊥
-Typed int (strings ps) = ⊥
-Typed dt (num z) = natural32 z
-Typed dt (bytes p) = ⊥
-Typed dt (strings ps) = ⊥
-Typed mask (num z) = natural32 z
-Typed mask (bytes p) = ⊥
-Typed mask (strings ps) = ⊥
-Typed str (num z) = ⊥
-Typed str (bytes p) = Unit
-Typed str (strings ps) = ⊥
-Typed uuid (num z) = ⊥
-Typed uuid (bytes p) = p .len ≡ 16
-Typed uuid (strings ps) = ⊥
-Typed blob (num z) = ⊥
-Typed blob (bytes p) = Unit
-Typed blob (strings ps) = ⊥
-Typed args (num z) = ⊥
-Typed args (bytes p) = ⊥
-Typed args (strings ps) = Unit
-
 abbrev pub AllTyped : List Field → List (Value Part) → Type 0
-AllTyped [] [] = Unit
-AllTyped [] (v ∷ vs) = ⊥
-AllTyped (f ∷ fs) [] = ⊥
-AllTyped (f ∷ fs) (v ∷ vs) = Typed f v × AllTyped fs vs
+AllTyped = SortsOf (λ p. p .len)
 
 -- a client that belongs to the kind has 32 bits
 abbrev pub ClientFits : Client → Type 0

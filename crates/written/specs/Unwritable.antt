@@ -1,7 +1,7 @@
 -- The records that have no written form and are refused 11: those for which one of eight tests holds. docs/FORMAT.md, "The writer".
 use Prim.Native.Nat.{ℕ}
 use mathlib.Core.Path.{_≡_}
-use mathlib.Core.Bool.{Bool, true, false, not, _&&_, _||_}
+use mathlib.Core.Bool.{Bool, true, false, cond, not, _&&_, _||_}
 use mathlib.Core.List.{List, [], _∷_, map}
 use lib.Dec.{leb}
 use lib.Signed.{nonNeg}
@@ -9,7 +9,7 @@ use Rattle.refusal.specs.Said.{Said}
 use Rattle.varint.specs.Written.{writtenIf, wroteSaid, writing}
 use Rattle.varint.specs.declared.Wrote.{Wrote}
 use Rattle.packer.specs.Texts.{noZero, isData}
-use Rattle.fields.specs.Fields.{Field, int, dt, mask, str, uuid, blob, args, Value, num, bytes, strings, mean}
+use Rattle.fields.specs.Fields.{Field, int, dt, mask, str, uuid, blob, args, Value, onNum, onBytes, onStrings, mean}
 use Rattle.fields.specs.Writing.{allNoZero, smallDt, partsInside}
 use Rattle.extensions.specs.Extensions.{payloadAt, find, isUnknown}
 use Rattle.item.specs.Records.{restOf}
@@ -28,6 +28,19 @@ abbrev pub tagFields : Tag → List Field
 tagFields (Plain k) = allFields (restOf k)
 tagFields (Named k) = ownPayload (payloadAt k)
 tagFields Other = uuid ∷ blob ∷ []
+
+abbrev pub fieldNumber : Field → ℕ
+fieldNumber int = 0
+fieldNumber dt = 1
+fieldNumber mask = 2
+fieldNumber str = 3
+fieldNumber uuid = 4
+fieldNumber blob = 5
+fieldNumber args = 6
+
+-- a field is of this sort
+abbrev pub isField : Field → Field → Bool
+isField g f = eqb (fieldNumber g) (fieldNumber f)
 
 abbrev pub someOf : (Field → Value (List ℕ) → Bool) → List Field → List (Value (List ℕ)) → Bool
 someOf test [] vs = false
@@ -60,15 +73,7 @@ negativeClient r = negativeTag (recordOf r .tag)
 -- ---- 2: dt above 2147483647
 
 abbrev pub isLargeDt : Field → Value (List ℕ) → Bool
-isLargeDt int v = false
-isLargeDt dt (num z) = not (smallDt z)
-isLargeDt dt (bytes b) = false
-isLargeDt dt (strings bs) = false
-isLargeDt mask v = false
-isLargeDt str v = false
-isLargeDt uuid v = false
-isLargeDt blob v = false
-isLargeDt args v = false
+isLargeDt f v = isField dt f && onNum false (λ z. not (smallDt z)) v
 
 abbrev pub largeDt : List ℕ → Record → Bool
 largeDt s r = someField isLargeDt s r
@@ -76,17 +81,8 @@ largeDt s r = someField isLargeDt s r
 -- ---- 3: a string holding 00
 
 abbrev pub holdsZero : Field → Value (List ℕ) → Bool
-holdsZero int v = false
-holdsZero dt v = false
-holdsZero mask v = false
-holdsZero str (num z) = false
-holdsZero str (bytes b) = not (noZero b)
-holdsZero str (strings bs) = false
-holdsZero uuid v = false
-holdsZero blob v = false
-holdsZero args (num z) = false
-holdsZero args (bytes b) = false
-holdsZero args (strings bs) = not (allNoZero bs)
+holdsZero f v =
+    cond (isField str f) (onBytes false (λ b. not (noZero b)) v) (isField args f && onStrings false (λ bs. not (allNoZero bs)) v)
 
 abbrev pub zeroInString : List ℕ → Record → Bool
 zeroInString s r = someField holdsZero s r
@@ -99,15 +95,7 @@ manyArguments r = not (leb (tagCount (recordOf r .tag) (r .args)) 16)
 -- ---- 5: data above 2147483647 bytes, an extension's payload too
 
 abbrev pub isLongData : Field → Value (List ℕ) → Bool
-isLongData int v = false
-isLongData dt v = false
-isLongData mask v = false
-isLongData str v = false
-isLongData uuid v = false
-isLongData blob (num z) = false
-isLongData blob (bytes b) = not (isData b)
-isLongData blob (strings bs) = false
-isLongData args v = false
+isLongData f v = isField blob f && onBytes false (λ b. not (isData b)) v
 
 -- the payload of UnknownEx is its data
 abbrev pub longPayload : Tag → List (Value (List ℕ)) → Bool

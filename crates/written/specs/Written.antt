@@ -7,7 +7,7 @@ use lib.IntN.{negsuc}
 use lib.Signed.{nonNeg}
 use Rattle.varint.specs.Written.{canonical}
 use Rattle.packer.specs.Texts.{isData, dataBytes}
-use Rattle.fields.specs.Fields.{Field, Value, num, bytes, strings}
+use Rattle.fields.specs.Fields.{Field, Value, onBytes}
 use Rattle.fields.specs.Writing.{allWritable, writeFields, partsInside}
 use Rattle.fields.specs.declared.Args.{Args}
 use Rattle.kinds.specs.Kinds.{
@@ -55,9 +55,7 @@ allFields extension = []
 
 abbrev pub firstBytes : List (Value (List ℕ)) → List ℕ
 firstBytes [] = []
-firstBytes (num z ∷ vs) = []
-firstBytes (bytes b ∷ vs) = b
-firstBytes (strings bs ∷ vs) = []
+firstBytes (v ∷ vs) = onBytes [] (λ b. b) v
 
 abbrev pub secondBytes : List (Value (List ℕ)) → List ℕ
 secondBytes [] = []

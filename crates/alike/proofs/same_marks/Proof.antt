@@ -4,7 +4,7 @@ use Prim.Native.Nat.{_≤_, _-_}
 use mathlib.Core.Path.{_≡_}
 use native.Mathlib.Omega.{arith}
 use Rattle.state.specs.State.{every}
-use Rattle.good.proofs.Tests.{none-yet, one-more}
+use Rattle.state.proofs.Every.{none-yet, one-more, all-tested}
 use Rattle.alike.specs.Alike.{sameMark}
 use Rattle.alike.proofs.same_marks.Statement.{statement}
 use Rattle.alike.proofs.same_marks.Tie as tie
@@ -23,14 +23,8 @@ loop-again c =
     let t : c .before .same-mark .result ≡ p (l .i) = rw (c .before .same-mark .ensures) in
     (omega arith, one-more p (l .i) _ _ _ t (l .inv .1) (c .both .ensures))
 
-returns : tie.Need-returns Inv-loop μ-loop
-returns c =
-    let l = c .before .loop in
-    let e : l .i ≡ 128 = omega arith in
-    rw e at (l .inv .1)
-
 pub same-marks-spec : {M : Type 1} → statement M
 same-marks-spec =
     tie.close
     (tie.spec Inv-loop μ-loop (λ c. (omega arith, none-yet _)) (λ c. search needs) (λ c. search needs) (λ c κs. search needs)
-    (λ c κs. search needs) (λ c. search needs) (λ c. search needs) loop-again returns)
+    (λ c κs. search needs) (λ c. search needs) (λ c. search needs) loop-again (λ c. all-tested _ (c .before .loop .inv .1) (omega arith)))

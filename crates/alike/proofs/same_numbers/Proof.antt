@@ -7,16 +7,16 @@ use lib.ListN.{getD}
 use lib.IntN.{pos}
 use Rattle.state.specs.State.{every}
 use Rattle.state.proofs.Numbers.{element}
-use Rattle.good.proofs.Tests.{none-yet, one-more}
+use Rattle.state.proofs.Every.{none-yet, one-more, all-tested}
 use Rattle.alike.specs.Alike.{sameNumber}
 use Rattle.alike.proofs.same_numbers.Statement.{statement}
 use Rattle.alike.proofs.same_numbers.Tie as tie
 
 abbrev Inv-loop : tie.InvT-loop
-Inv-loop a b all₀ i₀ all i = (i ≤ 128) × (all ≡ every i (sameNumber a b))
+Inv-loop a b n all₀ i₀ all i = (i ≤ n) × (all ≡ every i (sameNumber a b))
 
 abbrev μ-loop : tie.MeasureT-loop
-μ-loop a b all₀ i₀ all i = 128 - i
+μ-loop a b n all₀ i₀ all i = n - i
 
 loop-again : tie.Need-loop-again Inv-loop μ-loop
 loop-again c =
@@ -28,14 +28,8 @@ loop-again c =
     let t : c .before .same-number .result ≡ p (l .i) = rw (c .before .same-number .ensures, x, y) in
     (omega arith, one-more p (l .i) _ _ _ t (l .inv .1) (c .both .ensures))
 
-returns : tie.Need-returns Inv-loop μ-loop
-returns c =
-    let l = c .before .loop in
-    let e : l .i ≡ 128 = omega arith in
-    rw e at (l .inv .1)
-
 pub same-numbers-spec : {M : Type 1} → statement M
 same-numbers-spec =
     tie.close
     (tie.spec Inv-loop μ-loop (λ c. (omega arith, none-yet _)) (λ c. search needs) (λ c. search needs) (λ c. search needs)
-    (λ c. search needs) (λ c κs. search needs) (λ c κs. search needs) (λ c. search needs) (λ c. search needs) loop-again returns)
+    (λ c. search needs) (λ c κs. search needs) (λ c κs. search needs) (λ c. search needs) (λ c. search needs) loop-again (λ c. all-tested _ (c .before .loop .inv .1) (omega arith)))

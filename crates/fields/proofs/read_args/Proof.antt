@@ -1,11 +1,10 @@
 -- `fields::read_args` meets its contract. Assumes nothing.
 use mathlib.Core.Path.{_≡_, sym, _∙_}
-use native.Mathlib.Omega.{arith}
 use borrow.Author.Needs.{needs}
 use mir.Syntax.{w32}
-use mir.Val.{SFits, toZ, ofZ}
+use mir.Val.{SFits}
 use lib.Signed.{mag}
-use Rattle.num.proofs.Signs.{below-zero, not-below-zero}
+use Rattle.num.proofs.Signs.{below-zero, not-below-zero, read-back, casts-64}
 use Rattle.fields.proofs.Arguments.{count-out, count-negative, count-got}
 use Rattle.fields.proofs.read_args.Statement.{statement}
 use Rattle.fields.proofs.read_args.Tie as tie
@@ -28,18 +27,16 @@ cast-read-strings : tie.Need-cast-read-strings
 cast-read-strings c =
     let f = c .before .before .value .given in
     let h : SFits w32 (f .0 .0) = search needs in
-    let x : toZ w32 (ofZ w32 (f .0 .0)) ≡ f .0 .0 = search needs in
-    rw (x ∙ not-below-zero (f .0 .0) h (c .if1 .left)) (tt, record { fits = omega (arith, h .sfits) })
+    casts-64 (f .0 .0) h (c .if1 .left)
 
 returns-3 : tie.Need-returns-3
 returns-3 c =
     let f = c .before .before .before .value .given in
     let a = c .before .before .before .before .before .before .before .args in
     let h : SFits w32 (f .0 .0) = search needs in
-    let x : toZ w32 (ofZ w32 (f .0 .0)) ≡ f .0 .0 = search needs in
     let p = not-below-zero (f .0 .0) h (c .before .if1 .left) in
     let e = sym (c .before .before .before .before .before .read-int .ensures) ∙ f .1 in
-    rw (x ∙ p) at (c .read-strings .ensures) ∙ count-got (a .s .now) (a .at) (mag (f .0 .0)) (f .0 .1 .0) (f .0 .1 .1 .0) (e ∙ rw p)
+    rw (read-back (f .0 .0) h (c .before .if1 .left)) at (c .read-strings .ensures) ∙ count-got (a .s .now) (a .at) (mag (f .0 .0)) (f .0 .1 .0) (f .0 .1 .1 .0) (e ∙ rw p)
 
 pub read-args-spec : {M : Type 1} → statement M
 read-args-spec =

@@ -1,11 +1,10 @@
 -- `fields::skip_args` meets its contract. Assumes nothing.
 use mathlib.Core.Path.{_≡_, sym, _∙_, ap}
-use native.Mathlib.Omega.{arith}
 use borrow.Author.Needs.{needs}
 use mir.Syntax.{w32}
-use mir.Val.{SFits, toZ, ofZ}
+use mir.Val.{SFits}
 use lib.Signed.{mag}
-use Rattle.num.proofs.Signs.{below-zero, not-below-zero}
+use Rattle.num.proofs.Signs.{below-zero, not-below-zero, read-back, casts-64}
 use Rattle.fields.specs.declared.ArgsRead.{ArgsRead}
 use Rattle.fields.proofs.Arguments.{count-out, count-negative, count-got}
 use Rattle.fields.proofs.skip_args.Statement.{statement}
@@ -30,8 +29,7 @@ cast-skip-strings : tie.Need-cast-skip-strings
 cast-skip-strings c =
     let f = c .before .before .value .given in
     let h : SFits w32 (f .0 .0) = search needs in
-    let x : toZ w32 (ofZ w32 (f .0 .0)) ≡ f .0 .0 = search needs in
-    rw (x ∙ not-below-zero (f .0 .0) h (c .if1 .left)) (tt, record { fits = omega (arith, h .sfits) })
+    casts-64 (f .0 .0) h (c .if1 .left)
 
 returns-3 : tie.Need-returns-3
 returns-3 c =
@@ -39,10 +37,9 @@ returns-3 c =
     let r = c .before .before .before .before .before in
     let a = r .before .before .args in
     let h : SFits w32 (f .0 .0) = search needs in
-    let x : toZ w32 (ofZ w32 (f .0 .0)) ≡ f .0 .0 = search needs in
     let p = not-below-zero (f .0 .0) h (c .before .if1 .left) in
     let e = sym (r .read-int .ensures) ∙ f .1 in
-    rw (x ∙ p) at (c .skip-strings .ensures)
+    rw (read-back (f .0 .0) h (c .before .if1 .left)) at (c .skip-strings .ensures)
     ∙ ap (λ (y : ArgsRead). y .answer) (count-got (a .s .now) (a .at) (mag (f .0 .0)) (f .0 .1 .0) (f .0 .1 .1 .0) (e ∙ rw p))
 
 pub skip-args-spec : {M : Type 1} → statement M

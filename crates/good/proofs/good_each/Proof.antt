@@ -5,7 +5,7 @@ use mathlib.Core.Path.{_≡_}
 use native.Mathlib.Omega.{arith}
 use Rattle.state.specs.State.{every, goodInput}
 use Rattle.good.specs.Blocks.{from}
-use Rattle.good.proofs.Tests.{none-yet, one-more}
+use Rattle.state.proofs.Every.{none-yet, one-more, all-tested}
 use Rattle.good.proofs.good_each.Statement.{statement}
 use Rattle.good.proofs.good_each.Tie as tie
 
@@ -22,14 +22,8 @@ loop-again c =
     let p = from (a .c) (goodInput (a .held .now) (a .inputs .now)) in
     (omega arith, one-more p (l .k) _ _ _ (c .before .good-input .ensures) (l .inv .1) (c .both .ensures))
 
-returns : tie.Need-returns Inv-loop μ-loop
-returns c =
-    let l = c .before .loop in
-    let e : l .k ≡ 16 = omega arith in
-    rw e at (l .inv .1)
-
 pub good-each-spec : {M : Type 1} → statement M
 good-each-spec =
     tie.close
     (tie.spec Inv-loop μ-loop (λ c. (omega arith, none-yet _)) (λ c. search needs) (λ c. search needs) (λ c κs. search needs)
-    (λ c κs. search needs) (λ c. search needs) (λ c. search needs) loop-again returns)
+    (λ c κs. search needs) (λ c. search needs) (λ c. search needs) loop-again (λ c. all-tested _ (c .before .loop .inv .1) (omega arith)))

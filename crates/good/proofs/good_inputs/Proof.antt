@@ -5,7 +5,7 @@ use mathlib.Core.Path.{_≡_}
 use native.Mathlib.Omega.{arith}
 use Rattle.state.specs.State.{every, goodInput, goodInputs}
 use Rattle.good.proofs.Blocks.{one-block}
-use Rattle.good.proofs.Tests.{none-yet}
+use Rattle.state.proofs.Every.{none-yet, all-tested}
 use Rattle.good.proofs.good_inputs.Statement.{statement}
 use Rattle.good.proofs.good_inputs.Tie as tie
 
@@ -24,10 +24,7 @@ loop-again c =
 
 returns : tie.Need-returns Inv-loop μ-loop
 unfolding goodInputs
-returns c =
-    let l = c .before .loop in
-    let e : l .b ≡ 8 = omega arith in
-    rw e at (l .inv .1)
+returns c = all-tested _ (c .before .loop .inv .1) (omega arith)
 
 pub good-inputs-spec : {M : Type 1} → statement M
 good-inputs-spec =

@@ -7,7 +7,7 @@ use lib.ListN.{getD}
 use lib.IntN.{pos}
 use Rattle.state.specs.State.{every, goodPlayer, goodPlayers}
 use Rattle.state.proofs.Numbers.{element}
-use Rattle.good.proofs.Tests.{none-yet, one-more}
+use Rattle.state.proofs.Every.{none-yet, one-more, all-tested}
 use Rattle.good.proofs.good_players.Statement.{statement}
 use Rattle.good.proofs.good_players.Tie as tie
 
@@ -31,10 +31,7 @@ loop-again c =
 
 returns : tie.Need-returns Inv-loop μ-loop
 unfolding goodPlayers
-returns c =
-    let l = c .before .loop in
-    let e : l .i ≡ 128 = omega arith in
-    rw e at (l .inv .1)
+returns c = all-tested _ (c .before .loop .inv .1) (omega arith)
 
 pub good-players-spec : {M : Type 1} → statement M
 good-players-spec =

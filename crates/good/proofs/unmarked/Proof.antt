@@ -5,7 +5,7 @@ use mathlib.Core.Path.{_≡_, refl}
 use native.Mathlib.Omega.{arith}
 use Rattle.state.specs.State.{every}
 use Rattle.good.specs.Blocks.{from, noMark}
-use Rattle.good.proofs.Tests.{none-yet, one-more}
+use Rattle.state.proofs.Every.{none-yet, one-more, all-tested}
 use Rattle.good.proofs.unmarked.Statement.{statement}
 use Rattle.good.proofs.unmarked.Tie as tie
 
@@ -21,14 +21,8 @@ loop-again c =
     let l = c .before .before .before .loop in
     (omega arith, one-more (from (a .c) (noMark (a .held .now))) (l .k) _ _ _ refl (l .inv .1) (c .both .ensures))
 
-returns : tie.Need-returns Inv-loop μ-loop
-returns c =
-    let l = c .before .loop in
-    let e : l .k ≡ 16 = omega arith in
-    rw e at (l .inv .1)
-
 pub unmarked-spec : {M : Type 1} → statement M
 unmarked-spec =
     tie.close
     (tie.spec Inv-loop μ-loop (λ c. (omega arith, none-yet _)) (λ c. search needs) (λ c. search needs) (λ c κs. search needs)
-    (λ c. search needs) (λ c. search needs) loop-again returns)
+    (λ c. search needs) (λ c. search needs) loop-again (λ c. all-tested _ (c .before .loop .inv .1) (omega arith)))

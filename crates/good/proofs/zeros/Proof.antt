@@ -7,7 +7,7 @@ use lib.ListN.{getD}
 use lib.IntN.{pos}
 use Rattle.state.specs.State.{every, zeroAt}
 use Rattle.state.proofs.Numbers.{element}
-use Rattle.good.proofs.Tests.{none-yet, one-more}
+use Rattle.state.proofs.Every.{none-yet, one-more, all-tested}
 use Rattle.good.proofs.zeros.Statement.{statement}
 use Rattle.good.proofs.zeros.Tie as tie
 
@@ -26,15 +26,9 @@ loop-again c =
     let t : c .before .is-zero .result ≡ p (l .k) = rw (c .before .is-zero .ensures, x) in
     (omega arith, one-more p (l .k) _ _ _ t (l .inv .1) (c .both .ensures))
 
-returns : tie.Need-returns Inv-loop μ-loop
-returns c =
-    let l = c .before .loop in
-    let e : l .k ≡ c .before .before .args .n = omega arith in
-    rw e at (l .inv .1)
-
 pub zeros-spec : {M : Type 1} → statement M
 zeros-spec =
     tie.close
     (tie.spec Inv-loop μ-loop (λ c. (omega arith, none-yet _)) (λ c. search needs) (λ c. search needs)
     (λ c. search needs) (λ c. search needs) (λ c κs. search needs) (λ c κs. search needs) (λ c. search needs)
-    (λ c. search needs) loop-again returns)
+    (λ c. search needs) loop-again (λ c. all-tested _ (c .before .loop .inv .1) (omega arith)))

@@ -1,41 +1,24 @@
 -- `lines::put_six` meets its contract. Assumes nothing.
-use Prim.Native.Nat.{_+_, _/_, _%_, _≤_}
-use mathlib.Core.Path.{_≡_}
-use mathlib.Core.List.{_++_}
+use Prim.Native.Nat.{_/_, _%_}
 use native.Mathlib.Omega.{arith}
 use borrow.Author.Needs.{needs}
-use lib.ListN.{length}
-use Rattle.lines.specs.Lines.{natural}
-use Rattle.lines.proofs.Digits.{pair, natural-pair, high-fits, low-fits, low-put}
+use Rattle.lines.proofs.Digits.{pair, Halves, by-pair}
 use Rattle.lines.proofs.put_six.Statement.{statement}
 use Rattle.lines.proofs.put_six.Tie as tie
 
-parts : (c : tie.Then1) → let n = c .before .before .args .n in natural n ≡ natural (n / 100) ++ pair (n % 100)
-parts c = natural-pair (c .before .before .args .n) (omega arith) (omega arith)
-
-put-four-requires : tie.Need-put-four-requires
-put-four-requires c κs =
-    let t = c .before in
-    let a = t .before .before .args in
-    (omega arith, high-fits (a .out .now) (a .at) (a .n) (a .n / 100) (pair (a .n % 100)) (parts t) (t .before .before .pre .1))
-
-put-pair-requires : tie.Need-put-pair-requires
-put-pair-requires c κs =
-    let p = c .before .before .before in
-    let t = p .before .before in
-    let a = t .before .before .args in
-    (omega arith, low-fits (a .out .now) (a .at) (a .n) (a .n / 100) (pair (a .n % 100)) (parts t) (t .before .before .pre .1) _ _ (p .put-four .ensures))
+parts : (c : tie.Then1) → let a = c .before .before .args in Halves (a .out .now) (a .at) (a .n) (a .n / 100) (pair (a .n % 100))
+parts c = by-pair _ _ _ (c .before .before .pre .1) (omega arith) (omega arith)
 
 returns : tie.Need-returns
 returns c =
     let q = c .before .before in
     let p = q .before .before .before .before in
-    let t = p .before .before in
-    let a = t .before .before .args in
-    low-put (a .out .now) (a .at) (a .n) (a .n / 100) (pair (a .n % 100)) (parts t) (t .before .before .pre .1) _ _ (p .put-four .ensures) _ _
-    (q .put-pair .ensures)
+    parts (p .before .before) .both _ _ (p .put-four .ensures) _ _ (q .put-pair .ensures)
 
 pub put-six-spec : {M : Type 1} → statement M
 put-six-spec =
     tie.close
-    (tie.spec put-four-requires put-pair-requires (λ c. search needs) returns (λ c κs. search needs) (λ c. search needs) (λ c. search needs))
+    (tie.spec
+    (λ c κs. (omega arith, parts (c .before) .high-fits))
+    (λ c κs. let p = c .before .before .before in (omega arith, parts (p .before .before) .low-fits _ _ (p .put-four .ensures)))
+    (λ c. search needs) returns (λ c κs. search needs) (λ c. search needs) (λ c. search needs))

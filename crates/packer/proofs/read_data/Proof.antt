@@ -1,11 +1,10 @@
 -- `packer::read_data` meets its contract. Assumes nothing.
 use mathlib.Core.Path.{_≡_, sym, _∙_, ap}
-use native.Mathlib.Omega.{arith}
 use borrow.Author.Needs.{needs}
 use mir.Syntax.{w32}
-use mir.Val.{SFits, toZ, ofZ}
+use mir.Val.{SFits}
 use Rattle.packer.specs.Parts.{dataAfter, dataOf, readData}
-use Rattle.num.proofs.Signs.{below-zero, not-below-zero}
+use Rattle.num.proofs.Signs.{below-zero, not-below-zero, read-back, casts-64}
 use Rattle.packer.proofs.read_data.Statement.{statement}
 use Rattle.packer.proofs.read_data.Tie as tie
 
@@ -27,8 +26,7 @@ cast-read-raw : tie.Need-cast-read-raw
 cast-read-raw c =
     let f = c .before .before .value .given in
     let h : SFits w32 (f .0 .0) = search needs in
-    let x : toZ w32 (ofZ w32 (f .0 .0)) ≡ f .0 .0 = search needs in
-    rw (x ∙ not-below-zero (f .0 .0) h (c .if1 .left)) (tt, record { fits = omega (arith, h .sfits) })
+    casts-64 (f .0 .0) h (c .if1 .left)
 
 returns-3 : tie.Need-returns-3
 unfolding readData
@@ -36,10 +34,8 @@ returns-3 c =
     let f = c .before .before .before .value .given in
     let s = c .before .before .before .before .before .before .before .args .s .now in
     let h : SFits w32 (f .0 .0) = search needs in
-    let x : toZ w32 (ofZ w32 (f .0 .0)) ≡ f .0 .0 = search needs in
-    let p = not-below-zero (f .0 .0) h (c .before .if1 .left) in
-    rw (x ∙ p) at (c .read-raw .ensures)
-    ∙ ap (λ z. dataOf s z (f .0 .1 .0)) (sym p)
+    rw (read-back (f .0 .0) h (c .before .if1 .left)) at (c .read-raw .ensures)
+    ∙ ap (λ z. dataOf s z (f .0 .1 .0)) (sym (not-below-zero (f .0 .0) h (c .before .if1 .left)))
     ∙ ap (dataAfter s) (sym (f .1) ∙ c .before .before .before .before .before .read-int .ensures)
 
 pub read-data-spec : {M : Type 1} → statement M

@@ -8,7 +8,8 @@ use borrow.Author.Needs.{needs}
 use lib.ListN.{length}
 use Rattle.varint.specs.declared.Wrote.{Wrote}
 use Rattle.packer.proofs.Joined.{nothing-put}
-use Rattle.lines.specs.Lines.{lastLine, longest, Puts, lineAnswer, lineTarget}
+use Rattle.lines.specs.Lines.{lastLine, longest, lineAnswer, lineTarget}
+use Rattle.lines.specs.Puts.{Puts}
 use Rattle.lines.specs.declared.Ending.the-variants.{TooLong}
 use Rattle.lines.proofs.Texts.{same-text}
 use Rattle.many.specs.Many.{wantsMore}

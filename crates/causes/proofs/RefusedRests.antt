@@ -2,20 +2,20 @@
 -- nothing.
 use Prim.Native.Nat.{ℕ, zero, suc, _+_, _<_}
 use mathlib.Core.Path.{_≡_, refl, sym, _∙_, subst}
-use mathlib.Core.Bool.{Bool, true, false, false≢true, _&&_}
+use mathlib.Core.Bool.{true, false}
 use mathlib.Core.List.{List, [], _∷_, _++_}
 use native.Mathlib.Omega.{arith}
-use lib.ListN.{length, getD, take, length-append}
+use lib.ListN.{length, length-append}
 use lib.Dec.{ltb}
 use lib.IntN.{pos, negsuc}
 use borrow.Author.Tests.{lt-ltb, le-ltb}
 use Rattle.refusal.specs.declared.Refusal.{Refusal}
-use Rattle.refusal.specs.declared.Refusal.the-variants.{NegativeDt, NegativeNumArgs, NumArgsTooLarge}
+use Rattle.refusal.specs.declared.Refusal.the-variants.{NegativeNumArgs, NumArgsTooLarge}
 use Rattle.varint.specs.Integers.{readInt}
 use Rattle.varint.specs.declared.Remark.{Remark}
 use Rattle.varint.specs.declared.IntRead.{IntRead}
 use Rattle.varint.specs.declared.IntRead.the-variants as ints
-use Rattle.packer.specs.Parts.{shown, readString, readRaw, readData}
+use Rattle.packer.specs.Parts.{readString}
 use Rattle.packer.specs.declared.Part.{Part}
 use Rattle.packer.specs.declared.PartRead.{PartRead}
 use Rattle.packer.specs.declared.PartRead.the-variants as parts
@@ -25,7 +25,6 @@ use Rattle.fields.specs.Fields.{
   dt,
   mask,
   str,
-  uuid,
   blob,
   args,
   Value,
@@ -33,133 +32,22 @@ use Rattle.fields.specs.Fields.{
   got,
   runsOut,
   refused,
-  intField,
   dtField,
-  maskField,
-  partField,
   oneArg,
   argsFrom,
   asStrings,
   argsField,
-  readField,
-  push,
   andThen,
   readFields,
 }
 use Rattle.fields.specs.Views.{tenFields}
 use Rattle.fields.proofs.Appended.{prepend, joined, fields-joined}
-use Rattle.extensions.specs.Extensions.{Payload, shaped, whole, extensionRow, payloadAt, all, find}
-use Rattle.extensions.specs.declared.Extension.{Extension}
-use Rattle.extensions.specs.declared.Found.{Found}
-use Rattle.extensions.specs.declared.Found.the-variants.{Known, Unknown}
-use Rattle.extensions.proofs.Each.{tested}
-use Rattle.item.specs.Records.{Content, asContent, upTo, ofPayload, ofFound, afterData, afterId, readEx, readRest}
+use Rattle.item.specs.Records.{asContent, readRest}
 use Rattle.kinds.specs.declared.Kind.{Kind}
 use Rattle.kinds.specs.declared.Kind.the-variants as kinds
-use Rattle.item.specs.declared.Tag.{Tag}
-use Rattle.item.specs.declared.Tag.the-variants.{Plain, Named}
-use Rattle.reading_laws.specs.Causes.{Strings, none, one}
-use Rattle.state.proofs.Every.{left-of, right-of}
-use Rattle.reading_laws.proofs.UnknownKinds.{not-got, not-out}
-
--- ---- fields that refuse nothing
-
-abbrev calm : Field → Bool
-calm int = true
-calm dt = false
-calm mask = true
-calm str = true
-calm uuid = true
-calm blob = true
-calm args = false
-
-abbrev allCalm : List Field → Bool
-allCalm [] = true
-allCalm (f ∷ fs) = calm f && allCalm fs
-
-module _ {r : Refusal} where
-  push-calm : {A : Type 0} (v : A) (x : Reading (List A)) → push v x ≡ refused r → x ≡ refused r
-  push-calm v (got vs n) e = not-got e
-  push-calm v runsOut e = not-out e
-  push-calm v (refused q) e = cc
-
-  as-calm : (t : Tag) (x : Reading (List (Value Part))) → asContent t x ≡ refused r → x ≡ refused r
-  as-calm t (got vs n) e = not-got e
-  as-calm t runsOut e = not-out e
-  as-calm t (refused q) e = cc
-
-  upto-calm : (n : ℕ) (x : Reading (Content Part)) → upTo n x ≡ refused r → x ≡ refused r
-  upto-calm n (got vs m) e = not-got e
-  upto-calm n runsOut e = not-out e
-  upto-calm n (refused q) e = cc
-
-module _ {C : Type 0} {r : Refusal} where
-  int-calm : (i : IntRead) → intField i ≡ refused r → C
-  int-calm (ints.Got z n m) e = not-got e
-  int-calm ints.RunsOut e = not-out e
-
-  mask-calm : (i : IntRead) → maskField i ≡ refused r → C
-  mask-calm (ints.Got z n m) e = not-got e
-  mask-calm ints.RunsOut e = not-out e
-
-  part-calm : (i : PartRead) → partField i ≡ refused r → C
-  part-calm (parts.Got p n) e = not-got e
-  part-calm parts.RunsOut e = not-out e
-
-  field-calm : (f : Field) (w : List ℕ) (at : ℕ) → calm f ≡ true → readField f w at ≡ refused r → C
-  field-calm int w at c e = int-calm (readInt w at) e
-  field-calm dt w at c e = absurd (false≢true c)
-  field-calm mask w at c e = mask-calm (readInt w at) e
-  field-calm str w at c e = part-calm (readString w at) e
-  field-calm uuid w at c e = part-calm (readRaw 16 w at) e
-  field-calm blob w at c e = part-calm (readData w at) e
-  field-calm args w at c e = absurd (false≢true c)
-
-  then-calm : {A : Type 0} (x : Reading A) (k : ℕ → Reading (List A)) → (x ≡ refused r → C) → ((n : ℕ) → k n ≡ refused r → C)
-      → andThen x k ≡ refused r → C
-  then-calm (got v n) k f g e = g n (push-calm v (k n) e)
-  then-calm runsOut k f g e = not-out e
-  then-calm (refused q) k f g e = f (cc)
-
-  fields-calm : (fs : List Field) (w : List ℕ) (at : ℕ) → allCalm fs ≡ true → readFields fs w at ≡ refused r → C
-  fields-calm [] w at c e = not-got e
-  fields-calm (f ∷ fs) w at c e =
-      then-calm (readField f w at) (readFields fs w)
-      (λ x. field-calm f w at (left-of (calm f) (allCalm fs) c) x)
-      (λ n x. fields-calm fs w n (right-of (calm f) (allCalm fs) c) x)
-      e
-
--- ---- extensions refuse nothing
-
-abbrev calmLoad : Payload → Bool
-calmLoad (shaped fs) = allCalm fs
-calmLoad whole = true
-
-load-calm : (k : Extension) → calmLoad (payloadAt k) ≡ true
-unfolding payloadAt extensionRow all
-load-calm = tested (λ k. calmLoad (payloadAt k)) refl
-
-module _ {C : Type 0} {r : Refusal} (w : List ℕ) where
-  payload-calm : (p : Part) (k : Extension) (y : Payload) (n : ℕ) → calmLoad y ≡ true → ofPayload w p k y n ≡ refused r → C
-  payload-calm p k (shaped fs) n c e =
-      fields-calm fs (take n w) (p .at) c (as-calm (Named k) (readFields fs (take n w) (p .at)) (upto-calm n _ e))
-  payload-calm p k whole n c e = not-got e
-
-  found-calm : (id p : Part) (f : Found) (n : ℕ) → ofFound w id p f n ≡ refused r → C
-  found-calm id p (Known k) n e = payload-calm p k (payloadAt k) n (load-calm k) e
-  found-calm id p Unknown n e = not-got e
-
-  data-calm : (id : Part) (x : PartRead) → afterData w id x ≡ refused r → C
-  data-calm id (parts.Got p n) e = found-calm id p (find (shown w id)) n e
-  data-calm id parts.RunsOut e = not-out e
-
-  id-calm : (x : PartRead) → afterId w x ≡ refused r → C
-  id-calm (parts.Got id n) e = data-calm id (readData w n) e
-  id-calm parts.RunsOut e = not-out e
-
-  ex-calm : (at : ℕ) → readEx w at ≡ refused r → C
-  unfolding readEx
-  ex-calm at e = id-calm (readRaw 16 w at) e
+use Rattle.item.specs.declared.Tag.the-variants.{Plain}
+use Rattle.causes.specs.Causes.{Strings, none, one, RestRefused, negativeDt, negativeNumArgs, numArgsTooLarge}
+use Rattle.causes.proofs.Calm.{not-got, not-out, allCalm, push-calm, as-calm, fields-calm, ex-calm}
 
 -- ---- arguments: 16 strings were had, and another has been read
 
@@ -205,17 +93,10 @@ by-args (suc c) w had at (suc room) h l (one {next = next} {p = p} i s) =
 
 -- ---- the rest of a record
 
-pub data RestRefused (w : List ℕ) (n : ℕ) : Kind → Refusal → Type 0 where
-  byDt : {d next : ℕ} {remark : Remark} → readInt w n ≡ ints.Got (negsuc d) next remark → RestRefused w n kinds.TickSkip NegativeDt
-  byCount : {vs : List (Value Part)} {at c next : ℕ} {remark : Remark} → readFields (int ∷ mask ∷ str ∷ []) w n ≡ got vs at
-      → readInt w at ≡ ints.Got (negsuc c) next remark → RestRefused w n kinds.ConsoleCommand NegativeNumArgs
-  byArgs : {vs : List (Value Part)} {at c next : ℕ} {remark : Remark} → readFields (int ∷ mask ∷ str ∷ []) w n ≡ got vs at
-      → readInt w at ≡ ints.Got (pos c) next remark → 16 < c → Strings w 17 next → RestRefused w n kinds.ConsoleCommand NumArgsTooLarge
-
 module _ (w : List ℕ) (n : ℕ) (r : Refusal) where
   dt-refused : (i : IntRead) → readInt w n ≡ i → andThen (dtField i) (readFields [] w) ≡ refused r → RestRefused w n kinds.TickSkip r
   dt-refused (ints.Got (pos d) next m) i e = not-got e
-  dt-refused (ints.Got (negsuc d) next m) i e = subst (RestRefused w n kinds.TickSkip) (cc) (byDt i)
+  dt-refused (ints.Got (negsuc d) next m) i e = subst (RestRefused w n kinds.TickSkip) (cc) (negativeDt i)
   dt-refused ints.RunsOut i e = not-out e
 
   module _ {vs : List (Value Part)} {at : ℕ} (h : readFields (int ∷ mask ∷ str ∷ []) w n ≡ got vs at) where
@@ -225,12 +106,12 @@ module _ (w : List ℕ) (n : ℕ) (r : Refusal) where
     strings-refused c next m i runsOut x e = not-out e
     strings-refused c next m i (refused q) x e =
         let y = args-refused c w [] next 16 q refl x in
-        subst (RestRefused w n kinds.ConsoleCommand) (cc (y .0)) (byArgs h i (y .1 .0) (y .1 .1))
+        subst (RestRefused w n kinds.ConsoleCommand) (cc (y .0)) (numArgsTooLarge (record { before = vs; read = h }) i (y .1 .0) (y .1 .1))
 
     count-refused : (i : IntRead) → readInt w at ≡ i → andThen (argsField w i) (readFields [] w) ≡ refused r
         → RestRefused w n kinds.ConsoleCommand r
     count-refused (ints.Got (pos c) next m) i e = strings-refused c next m i (argsFrom c w [] next) refl e
-    count-refused (ints.Got (negsuc c) next m) i e = subst (RestRefused w n kinds.ConsoleCommand) (cc) (byCount h i)
+    count-refused (ints.Got (negsuc c) next m) i e = subst (RestRefused w n kinds.ConsoleCommand) (cc) (negativeNumArgs (record { before = vs; read = h }) i)
     count-refused ints.RunsOut i e = not-out e
 
     prepended : (us : List (Value Part)) (x : Reading (List (Value Part))) → prepend us x ≡ refused r → x ≡ refused r
@@ -277,6 +158,6 @@ command-rest w n {vs} r h e = rw (fields-joined (int ∷ mask ∷ str ∷ []) (a
 
 pub refused-rest : {k : Kind} {r : Refusal} (w : List ℕ) (n : ℕ) → RestRefused w n k r → readRest k w n ≡ refused r
 unfolding readRest
-refused-rest w n (byDt i) = rw i
-refused-rest w n (byCount h i) = command-rest w n NegativeNumArgs h (rw i)
-refused-rest w n (byArgs {c = c} {next} h i l s) = command-rest w n NumArgsTooLarge h (rw (i, by-args c w [] next 16 refl l s))
+refused-rest w n (negativeDt i) = rw i
+refused-rest w n (negativeNumArgs h i) = command-rest w n NegativeNumArgs (h .read) (rw i)
+refused-rest w n (numArgsTooLarge {c = c} {next} h i l s) = command-rest w n NumArgsTooLarge (h .read) (rw (i, by-args c w [] next 16 refl l s))

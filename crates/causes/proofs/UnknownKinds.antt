@@ -1,6 +1,6 @@
 -- Which kinds are refused: those below -11, and -11 in version 1. Assumes nothing.
 use Prim.Native.Nat.{ℕ, zero, suc, _+_}
-use mathlib.Core.Path.{_≡_, refl, sym}
+use mathlib.Core.Path.{_≡_, refl, sym, subst}
 use mathlib.Core.List.{List}
 use native.Mathlib.Omega.{arith}
 use lib.IntN.{ℤ, pos, negsuc}
@@ -8,25 +8,16 @@ use borrow.Author.Tests.{lt-ltb}
 use Rattle.refusal.specs.declared.Refusal.{Refusal}
 use Rattle.refusal.specs.declared.Refusal.the-variants.{UnknownType}
 use Rattle.varint.specs.Integers.{readInt}
-use Rattle.varint.specs.declared.Remark.{Remark}
 use Rattle.varint.specs.declared.IntRead.{IntRead}
 use Rattle.varint.specs.declared.IntRead.the-variants as ints
-use Rattle.fields.specs.Fields.{Reading, got, runsOut, refused}
+use Rattle.fields.specs.Fields.{refused}
 use Rattle.kinds.specs.Kinds.{withClient, extension, kindOf, afterNumber, readKind}
-use Rattle.kinds.proofs.Arms.{low}
 use Rattle.kinds.specs.declared.Version.{Version}
 use Rattle.kinds.specs.declared.Version.the-variants.{V1, V2}
 use Rattle.kinds.specs.declared.Kind.{Kind}
-use Rattle.state.specs.Reading.{nextKind}
-use Rattle.state.specs.declared.Pending.{Pending}
-use Rattle.state.specs.declared.Pending.the-variants.{Is, NoKind}
-use Rattle.reading_laws.specs.Causes.{UnknownKind, below, extensionInOne}
-
-pub not-got : {A : Type 0} {C : Type 0} {x : A} {n : ℕ} {r : Refusal} → got x n ≡ refused r → C
-not-got e = let z : _≡_ {A = ℕ} 0 1 = cc in absurd (omega arith)
-
-pub not-out : {A : Type 0} {C : Type 0} {r : Refusal} → _≡_ {A = Reading A} runsOut (refused r) → C
-not-out e = let z : _≡_ {A = ℕ} 0 1 = cc in absurd (omega arith)
+use Rattle.kinds.proofs.Arms.{low}
+use Rattle.causes.specs.Causes.{UnknownKind, below, extensionInOne, KindRefused, unknownType}
+use Rattle.causes.proofs.Calm.{not-got, not-out}
 
 client-never : {C : Type 0} (f : ℤ → Kind) (i : IntRead) {r : Refusal} → withClient f i ≡ refused r → C
 client-never f (ints.Got c next remark) e = not-got e
@@ -59,34 +50,22 @@ number-refused v w (negsuc (suc (suc (suc (suc (suc (suc (suc (suc (suc (suc zer
 number-refused v w (negsuc (suc (suc (suc (suc (suc (suc (suc (suc (suc (suc (suc k)))))))))))) n r e =
     let p : 11 + k ≡ eleven k = omega arith in (cc, below (lt-ltb 10 (eleven k) (omega arith)))
 
--- the number that was read, and that it is unknown
-pub record KindRefused (v : Version) (p : Pending) (w : List ℕ) (r : Refusal) : Type 0 where
-  pub number : ℤ
-  pub next : ℕ
-  pub remark : Remark
-  pub none : p ≡ NoKind
-  pub read : readInt w 0 ≡ ints.Got number next remark
-  pub unknown : UnknownKind v number
-  pub said : r ≡ UnknownType number
-
-after-refused : (v : Version) (w : List ℕ) (i : IntRead) (r : Refusal) → readInt w 0 ≡ i → afterNumber v w i ≡ refused r
-    → KindRefused v NoKind w r
-after-refused v w (ints.Got z n m) r i e =
+after-refused : (v : Version) (w : List ℕ) (at : ℕ) (i : IntRead) (r : Refusal) → readInt w at ≡ i → afterNumber v w i ≡ refused r
+    → KindRefused v w at r
+after-refused v w at (ints.Got z n m) r i e =
     let u = number-refused v w z n r e in
-    record { number = z; next = n; remark = m; none = refl; read = i; unknown = u .1; said = u .0 }
-after-refused v w ints.RunsOut r i e = not-out e
+    subst (KindRefused v w at) (sym (u .0)) (unknownType i (u .1))
+after-refused v w at ints.RunsOut r i e = not-out e
 
-pub kind-refused : (v : Version) (p : Pending) (w : List ℕ) (r : Refusal) → nextKind v p w ≡ refused r → KindRefused v p w r
-unfolding nextKind readKind
-kind-refused v NoKind w r e = after-refused v w (readInt w 0) r refl e
-kind-refused v (Is k) w r e = not-got e
+pub kind-refused : (v : Version) (w : List ℕ) (at : ℕ) (r : Refusal) → readKind v w at ≡ refused r → KindRefused v w at r
+unfolding readKind
+kind-refused v w at r e = after-refused v w at (readInt w at) r refl e
 
 by-unknown : {v : Version} {z : ℤ} (w : List ℕ) (n : ℕ) → UnknownKind v z → kindOf v w z n ≡ refused (UnknownType z)
 by-unknown {v} {z} w n (below l) = sym (low v w z n l)
 by-unknown w n extensionInOne = refl
 
 -- and back
-pub refused-kind : (v : Version) (p : Pending) (w : List ℕ) {z : ℤ} {n : ℕ} {m : Remark} → p ≡ NoKind → readInt w 0 ≡ ints.Got z n m
-    → UnknownKind v z → nextKind v p w ≡ refused (UnknownType z)
-unfolding nextKind readKind
-refused-kind v p w {n = n} o e u = rw (o, e) (by-unknown w n u)
+pub refused-kind : {v : Version} {w : List ℕ} {at : ℕ} {r : Refusal} → KindRefused v w at r → readKind v w at ≡ refused r
+unfolding readKind
+refused-kind {w = w} (unknownType {next = n} i u) = rw i (by-unknown w n u)

@@ -1,0 +1,4 @@
+pub mod Calm
+pub mod UnknownKinds
+pub mod RefusedRests
+pub mod Theorems

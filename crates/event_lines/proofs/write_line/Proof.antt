@@ -1,0 +1,118 @@
+-- `event_lines::write_line` meets its contract. Assumes nothing.
+use Prim.Native.Nat.{_+_}
+use mathlib.Core.Path.{_≡_, sym, _∙_}
+use mathlib.Core.Bool.{true}
+use mathlib.Core.List.{[], _∷_}
+use native.Mathlib.Omega.{arith}
+use borrow.Author.Needs.{needs}
+use borrow.Author.Tests.{leb-false, not-true, not-false}
+use lib.ListN.{length}
+use lib.Dec.{leb}
+use mir.Syntax.{w32}
+use mir.Val.{toZ, ofZ}
+use Rattle.state.specs.Views.{eventIs}
+use Rattle.lines.specs.Lines.{startWord, endWord, newWord, changeWord, oldWord, inputWord, plainLine, plainMost, lineOf, longest}
+use Rattle.lines.proofs.Texts.{too-short, roomy}
+use Rattle.event_lines.proofs.write_line.Statement.{statement}
+use Rattle.event_lines.proofs.write_line.Tie as tie
+
+returns : tie.Need-returns
+returns c =
+    let a = c .before .before .before .args in
+    too-short longest (a .out .now) (a .at) (lineOf (eventIs (a .event)) (a .t2))
+    (leb-false (a .at + longest) (length (a .out .now)) (sym (c .before .has-longest .ensures) ∙ not-true _ (c .if1 .taken)))
+
+fits : (c : tie.Else1) → let a = c .before .before .before .args in leb (a .at + longest) (length (a .out .now)) ≡ true
+fits c = sym (c .before .has-longest .ensures) ∙ not-false _ (c .if1 .left)
+
+returns-2 : tie.Need-returns-2
+returns-2 c =
+    let t = c .before .before .before .before .before .before .before .before .before in
+    let a = t .before .before .before .args in
+    let g = c .before .before .before .before .before .before .before .event .given in
+    let v0 : toZ w32 (ofZ w32 (g .0 .0)) ≡ g .0 .0 = search needs in
+    let ns = g .0 .0 ∷ [] in
+    rw (g .1) (roomy (plainMost startWord ns) (a .out .now) (a .at) (plainLine startWord ns) (fits t) (omega arith) _ _ (rw v0 at (c .before .before .write-plain .ensures)))
+
+returns-3 : tie.Need-returns-3
+returns-3 c =
+    let t = c .before .before .before .before .before .before .before .before .before in
+    let a = t .before .before .before .args in
+    let g = c .before .before .before .before .before .before .before .event2 .given in
+    let v0 : toZ w32 (ofZ w32 (g .0 .0)) ≡ g .0 .0 = search needs in
+    let ns = g .0 .0 ∷ [] in
+    rw (g .1) (roomy (plainMost endWord ns) (a .out .now) (a .at) (plainLine endWord ns) (fits t) (omega arith) _ _ (rw v0 at (c .before .before .write-plain2 .ensures)))
+
+returns-4 : tie.Need-returns-4
+returns-4 c =
+    let t = c .before .before .before .before .before .before .before .before .before in
+    let a = t .before .before .before .args in
+    let g = c .before .before .before .before .before .before .before .event3 .given in
+    let v0 : toZ w32 (ofZ w32 (g .0 .0)) ≡ g .0 .0 = search needs in
+    let v1 : toZ w32 (ofZ w32 (g .0 .1 .0)) ≡ g .0 .1 .0 = search needs in
+    let v2 : toZ w32 (ofZ w32 (g .0 .1 .1 .0)) ≡ g .0 .1 .1 .0 = search needs in
+    let ns = g .0 .0 ∷ g .0 .1 .0 ∷ g .0 .1 .1 .0 ∷ [] in
+    rw (g .1) (roomy (plainMost newWord ns) (a .out .now) (a .at) (plainLine newWord ns) (fits t) (omega arith) _ _ (rw (v0, v1, v2) at (c .before .before .write-plain3 .ensures)))
+
+returns-5 : tie.Need-returns-5
+returns-5 c =
+    let t = c .before .before .before .before .before .before .before .before .before in
+    let a = t .before .before .before .args in
+    let g = c .before .before .before .before .before .before .before .event4 .given in
+    let v0 : toZ w32 (ofZ w32 (g .0 .0)) ≡ g .0 .0 = search needs in
+    let v1 : toZ w32 (ofZ w32 (g .0 .1 .0)) ≡ g .0 .1 .0 = search needs in
+    let v2 : toZ w32 (ofZ w32 (g .0 .1 .1 .0)) ≡ g .0 .1 .1 .0 = search needs in
+    let v3 : toZ w32 (ofZ w32 (g .0 .1 .1 .1 .0)) ≡ g .0 .1 .1 .1 .0 = search needs in
+    let v4 : toZ w32 (ofZ w32 (g .0 .1 .1 .1 .1 .0)) ≡ g .0 .1 .1 .1 .1 .0 = search needs in
+    let ns = g .0 .0 ∷ g .0 .1 .0 ∷ g .0 .1 .1 .0 ∷ g .0 .1 .1 .1 .0 ∷ g .0 .1 .1 .1 .1 .0 ∷ [] in
+    rw (g .1) (roomy (plainMost changeWord ns) (a .out .now) (a .at) (plainLine changeWord ns) (fits t) (omega arith) _ _ (rw (v0, v1, v2, v3, v4) at (c .before .before .write-plain4 .ensures)))
+
+returns-6 : tie.Need-returns-6
+returns-6 c =
+    let t = c .before .before .before .before .before .before .before .before .before in
+    let a = t .before .before .before .args in
+    let g = c .before .before .before .before .before .before .before .event5 .given in
+    let v0 : toZ w32 (ofZ w32 (g .0 .0)) ≡ g .0 .0 = search needs in
+    let v1 : toZ w32 (ofZ w32 (g .0 .1 .0)) ≡ g .0 .1 .0 = search needs in
+    let v2 : toZ w32 (ofZ w32 (g .0 .1 .1 .0)) ≡ g .0 .1 .1 .0 = search needs in
+    let ns = g .0 .0 ∷ g .0 .1 .0 ∷ g .0 .1 .1 .0 ∷ [] in
+    rw (g .1) (roomy (plainMost oldWord ns) (a .out .now) (a .at) (plainLine oldWord ns) (fits t) (omega arith) _ _ (rw (v0, v1, v2) at (c .before .before .write-plain5 .ensures)))
+
+returns-7 : tie.Need-returns-7
+returns-7 c =
+    let t = c .before .before .before .before .before .before .before .before in
+    let a = t .before .before .before .args in
+    let g = c .before .before .before .before .before .before .event6 .given in
+    let v0 : toZ w32 (ofZ w32 (g .0 .0)) ≡ g .0 .0 = search needs in
+    let ten : length (a .t2) ≡ 10 = search needs in
+    let ns = g .0 .0 ∷ a .t2 in
+    rw (g .1)
+    (roomy (plainMost inputWord ns) (a .out .now) (a .at) (plainLine inputWord ns) (fits t) (omega arith) _ _
+    (rw v0 at (c .before .before .write-input .ensures)))
+
+returns-8 : tie.Need-returns-8
+returns-8 c =
+    let k = c .before .before .before .before .before in
+    let v : toZ w32 (ofZ w32 (k .kind-number .result)) ≡ k .kind-number .result = search needs in
+    rw (k .before .before .event7 .given .1, ← k .kind-number .ensures, ← c .before .before .before .before .cid .ensures)
+    (rw v at (c .before .before .write-record .ensures))
+
+pub write-line-spec : {M : Type 1} → statement M
+write-line-spec =
+    tie.close
+    (tie.spec
+    (λ c κs. search needs) returns
+    (λ c. search needs) (λ c. search needs) (λ c. search needs) (λ c κs. search needs)
+    (λ c. search needs) (λ c. search needs) (λ c. search needs) (λ c κs. search needs)
+    (λ c. search needs) (λ c. search needs) (λ c. search needs) (λ c κs. search needs)
+    (λ c. search needs) (λ c. search needs) (λ c. search needs) (λ c κs. search needs)
+    (λ c. search needs) (λ c. search needs) (λ c. search needs) (λ c κs. search needs)
+    (λ c. search needs) (λ c. search needs) (λ c κs. search needs)
+    (λ c. search needs) (λ c κs. search needs) (λ c κs. search needs) (λ c κs. search needs)
+    (λ c. search needs) returns-2
+    (λ c. search needs) returns-3
+    (λ c. search needs) returns-4
+    (λ c. search needs) returns-5
+    (λ c. search needs) returns-6
+    (λ c. search needs) returns-7
+    (λ c. search needs) returns-8)
