@@ -1,11 +1,11 @@
 -- What the calls on a reader by value hand back, as the definitions say it.
 use Prim.Native.Nat.{ℕ}
 use mathlib.Core.Path.{_≡_}
-use mathlib.Core.Bool.{Bool, true, false, cond}
+use mathlib.Core.Bool.{Bool, true, false}
 use mathlib.Core.List.{List, []}
 use lib.ListN.{take}
-use lib.IntN.{ℤ, pos, negsuc}
-use Rattle.fields.specs.Views.{zeros, argsWith}
+use lib.IntN.{ℤ}
+use Rattle.fields.specs.Views.{argsWith}
 use Rattle.fields.specs.declared.Args.{Args}
 use Rattle.item.specs.Said.{Said, gives, more, finish, refusing}
 use Rattle.item.specs.Contents.{itemOf, withBeside, noArgs}
@@ -13,7 +13,7 @@ use Rattle.item.specs.declared.Kind.{Kind}
 use Rattle.item.specs.declared.Kind.the-variants as kinds
 use Rattle.item.specs.declared.Tag.{Tag}
 use Rattle.item.specs.declared.Tag.the-variants.{Plain, Named, Other}
-use Rattle.state.specs.State.{Memory, present, xOf, yOf, holds, tenOf, readerWith}
+use Rattle.state.specs.State.{Memory, readerWith}
 use Rattle.state.specs.Reading.{Event, other, Step, openCall, readCall, readerAfter}
 use Rattle.state.specs.Views.{eventIs, saidIs, slimSaid}
 use Rattle.state.specs.declared.Scalars.{Scalars}
@@ -24,9 +24,6 @@ use Rattle.state.specs.declared.Event.the-variants as events
 use Rattle.state.specs.declared.Answer.{Answer}
 use Rattle.state.specs.declared.Answer.the-variants as answers
 use Rattle.reader.specs.declared.ReadAnswer.{ReadAnswer}
-use Rattle.reader.specs.declared.Pos.{Pos}
-use Rattle.reader.specs.declared.Pos.the-variants as places
-use Rattle.reader.specs.declared.InputOf.{InputOf}
 
 -- ---- a reading call: an event with the arguments that stand beside a command
 
@@ -131,17 +128,3 @@ pub record ArgsFor (a : Answer) (s : Scalars) (w : List ℕ) (xs : Args) : Type 
   pub said :
       (m : Memory) (last : Bool) → saidIs a ≡ slimSaid (openCall s m w last .said) → saidWith a xs ≡ openCall s m w last .said
   pub tidy : (m : Memory) (last : Bool) → saidIs a ≡ slimSaid (openCall s m w last .said) → answerArgs a xs ≡ xs
-
--- ---- lookups
-
-abbrev pub posOf : Entries → ℤ → Pos
-posOf e (pos c) = cond (present e c) (places.At (xOf e c) (yOf e c)) places.NoPos
-posOf e (negsuc c) = places.NoPos
-
-abbrev pub inputAnswer : Bool → List ℤ → InputOf
-inputAnswer there ten = record { there = there; input = ten }
-
--- ten zeros where there is none
-abbrev pub inputFor : Entries → ℤ → InputOf
-inputFor e (pos c) = cond (holds e c) (inputAnswer true (tenOf (e .inputs) c)) (inputAnswer false (zeros 10))
-inputFor e (negsuc c) = inputAnswer false (zeros 10)

@@ -1,20 +1,19 @@
 -- The lookups by the tests that the code makes: b is the client's bits. Assumes nothing.
-use Prim.Native.Nat.{ℕ, zero, suc, _≤_, _<_}
+use Prim.Native.Nat.{ℕ, _≤_, _<_}
 use mathlib.Core.Path.{_≡_, refl}
 use mathlib.Core.Bool.{true, false}
 use native.Mathlib.Omega.{arith}
 use lib.ListN.{getD}
-use lib.IntN.{ℤ, pos, negsuc, sucℤ, _+ℤ_, +ℤ-one}
-use lib.Signed.{mag}
-use mir.Syntax.{w32, w64}
+use lib.IntN.{ℤ, pos, negsuc}
+use mir.Syntax.{w32}
 use mir.Val.{SFits, ofZ}
 use Rattle.fields.specs.Views.{zeros}
 use Rattle.state.specs.State.{present, holds, xOf, yOf, tenOf}
 use Rattle.state.specs.declared.Entries.{Entries}
 use Rattle.state.proofs.Numbers.{picks-first, picks-second, client-is}
 use Rattle.state.proofs.Marks.{here, away, far}
-use Rattle.reader.specs.Answers.{posOf, inputAnswer, inputFor}
-use Rattle.reader.specs.declared.Pos.the-variants as places
+use Rattle.lookups.specs.Lookups.{posOf, inputAnswer, inputFor}
+use Rattle.lookups.specs.declared.Pos.the-variants as places
 
 pub pos-far : (e : Entries) (z : ℤ) (b : ℕ) → b ≡ ofZ w32 z → 128 ≤ b → places.NoPos ≡ posOf e z
 pos-far e (pos c) b q h = picks-second (present e c) _ _ (far (e .marks) c (omega arith))
@@ -36,16 +35,3 @@ module _ (e : Entries) (z : ℤ) (b : ℕ) (f : SFits w32 z) (q : b ≡ ofZ w32 
 
   pub input-here : getD (e .held) b 0 ≡ 1 → inputAnswer true (tenOf (e .inputs) b) ≡ inputFor e z
   input-here n = rw (client-is z b f q h) (picks-first (holds e b) _ _ (here (e .held) b h n))
-
--- ---- a number of 32 bits and the next one, held in 64
-
-pub wide : (z : ℤ) → mag z < 2147483648 → SFits w64 z
-wide z h = record { sfits = omega arith }
-
-after : (z : ℤ) → mag z < 2147483648 → mag (sucℤ z) ≤ 2147483648
-after (pos n) h = omega arith
-after (negsuc zero) h = omega arith
-after (negsuc (suc n)) h = omega arith
-
-pub wide-next : (z : ℤ) → mag z < 2147483648 → SFits w64 (z +ℤ pos 1)
-wide-next z h = rw (+ℤ-one z) (record { sfits = omega (arith, after z h) })
