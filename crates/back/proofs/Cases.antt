@@ -12,7 +12,7 @@ use lib.Dec.{eqb}
 use lib.IntN.{ℤ, pos, negsuc}
 use borrow.Author.Tests.{lt-ltb, le-ltb, not-true, not-false}
 use mir.Syntax.{w32}
-use mir.Val.{SFits, toZ, ofZ}
+use mir.Val.{SFits, ofZ}
 use Rattle.refusal.specs.declared.Refusal.the-variants.{BadState, NotLast}
 use Rattle.state.specs.State.{same, xOf, yOf, tenOf, withPlayer}
 use Rattle.state.specs.declared.Entries.{Entries}
@@ -22,13 +22,6 @@ use Rattle.back.specs.Back.{was, refused, onlyIf, sameAll, unPresent, un
 use Rattle.back.specs.declared.BoardTick.{BoardTick}
 use Rattle.back.specs.declared.BoardTick.the-variants.{In}
 use Rattle.back.specs.declared.Board.{Board}
-
--- ---- three numbers read back from their bits
-
-pub record Three (x y z : ℤ) : Type 0 where
-  pub first : toZ w32 (ofZ w32 x) ≡ x
-  pub second : toZ w32 (ofZ w32 y) ≡ y
-  pub third : toZ w32 (ofZ w32 z) ≡ z
 
 -- ---- fits or not
 

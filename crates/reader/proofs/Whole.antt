@@ -19,8 +19,8 @@ use Rattle.item.specs.declared.Kind.the-variants as kinds
 use Rattle.item.specs.declared.Tag.{Tag}
 use Rattle.item.specs.declared.Tag.the-variants.{Plain, Named, Other}
 use Rattle.records.specs.Views.{ownContent}
-use Rattle.step.specs.Kinds.{isOther}
-use Rattle.step.proofs.Others.{no-other, by-other}
+use Rattle.rests.specs.Kinds.{isOther}
+use Rattle.rests.proofs.Others.{no-other, by-other}
 use Rattle.reader.specs.Answers.{isCommand}
 
 -- ---- as many values as fields

@@ -5,15 +5,8 @@ ghost use Rattle.item.specs.Said.{refusing};
 ghost use Rattle.item.specs.Contents.{noArgs};
 ghost use Rattle.state.specs.State.{entriesWith, goodReader};
 ghost use Rattle.state.specs.Reading.{step, openCall, memoryOf};
-ghost use Rattle.reader.specs.Answers.{
-  recordEvent,
-  isRecord,
-  isCommand,
-  ArgsFor,
-  readAnswer,
-  Tells,
-  ReadIs,
-};
+ghost use Rattle.reader.specs.Answers.{isCommand, Tells, ReadIs};
+ghost use Rattle.reader.specs.Inside.{recordEvent, isRecord, ArgsFor, readAnswer};
 ghost use Rattle.lookups.specs.Lookups.{posOf, inputFor};
 ghost use Rattle.reader.specs.Wanted.{WantedIs};
 use fields::Args;

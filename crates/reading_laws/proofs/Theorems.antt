@@ -25,8 +25,6 @@ use Rattle.state.proofs.ByActs.{calls-by-acts}
 use Rattle.reader.specs.Answers.{saidWith}
 use Rattle.reader.specs.declared.ReadAnswer.{ReadAnswer}
 use Rattle.back.specs.Back.{undoOf, stepBack}
-use Rattle.back.specs.declared.BoardTick.{BoardTick}
-use Rattle.back.specs.declared.BoardTick.the-variants.{In, NoTick}
 use Rattle.reading_laws.specs.Causes.{Open, Cause, WantsMore}
 use Rattle.reading_laws.specs.Causes as cause
 use Rattle.reading_laws.specs.Laws.{RefusalsHaveCauses, MoreIsWanted, ReadDetermined, BackWithoutArguments}

@@ -3,10 +3,9 @@ use borrow.Author.Needs.{needs}
 use mathlib.Core.Path.{_≡_}
 use mir.Syntax.{w32}
 use mir.Val.{toZ, ofZ}
-use Rattle.state.proofs.Numbers.{back}
+use Rattle.state.proofs.Numbers.{back, Three}
 use Rattle.back.specs.Board.{board}
 use Rattle.back.specs.declared.BoardTick.the-variants.{In}
-use Rattle.back.proofs.Cases.{Three}
 use Rattle.back.proofs.inside.Statement.{statement}
 use Rattle.back.proofs.inside.Tie as tie
 

@@ -3,7 +3,7 @@ use borrow.Author.Needs.{needs}
 use mathlib.Core.Path.{_≡_}
 use mir.Syntax.{w32}
 use mir.Val.{toZ, ofZ}
-use Rattle.back.proofs.Cases.{Three}
+use Rattle.state.proofs.Numbers.{Three}
 use Rattle.back.proofs.undo_of.Statement.{statement}
 use Rattle.back.proofs.undo_of.Tie as tie
 

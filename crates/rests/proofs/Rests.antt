@@ -25,18 +25,19 @@ use Rattle.item.specs.Records.{asContent, readRest}
 use Rattle.item.specs.declared.Kind.the-variants as kinds
 use Rattle.item.specs.declared.Tag.the-variants.{Plain}
 use Rattle.item.specs.declared.Cid.the-variants.{Of}
+use Rattle.records.specs.Views.{inputKind}
 use Rattle.records.proofs.Inputs.{Numbers, all-numbers}
 use Rattle.state.specs.State.{Memory}
 use Rattle.state.specs.Reading.{Step, step, refusal, outOf, closing, naming, raising, playerDiff, newPlayer, oldPlayer, inputDiff, inputNew, tickSkip, first, apply, withRest}
 use Rattle.state.specs.Views.{slimStep}
 use Rattle.state.specs.declared.Scalars.{Scalars}
-use Rattle.step.specs.Kinds.{pairKind, inputKind}
-use Rattle.step.proofs.Slim.{slim-calm, calm-refusal, calm-out, calm-diff, calm-new, calm-old, calm-input-diff, calm-input-new, calm-skip}
+use Rattle.rests.specs.Kinds.{pairKind}
+use Rattle.rests.proofs.Slim.{slim-calm, calm-refusal, calm-out, calm-diff, calm-new, calm-old, calm-input-diff, calm-input-new, calm-skip}
 
 module _ (s : Scalars) (m : Memory) (last : Bool) (w : List ℕ) (at : ℕ) where
   -- ---- players
 
-  abbrev pairStep : Bool → ℤ → ℤ → ℤ → ℕ → Step
+  abbrev pub pairStep : Bool → ℤ → ℤ → ℤ → ℕ → Step
   pairStep true cid x y n = newPlayer (naming cid s) m cid x y n
   pairStep false cid x y n = playerDiff (naming cid s) m cid x y n
 
@@ -95,7 +96,7 @@ module _ (s : Scalars) (m : Memory) (last : Bool) (w : List ℕ) (at : ℕ) wher
 
   -- ---- inputs
 
-  abbrev inputStep : Bool → ℤ → List ℤ → ℕ → Step
+  abbrev pub inputStep : Bool → ℤ → List ℤ → ℕ → Step
   inputStep true cid ns n = inputNew (raising (Of cid) s) m cid ns n
   inputStep false cid ns n = inputDiff (raising (Of cid) s) m cid ns n
 

@@ -1,13 +1,13 @@
--- `step::with_record` meets its contract. Assumes nothing.
+-- `rests::with_record` meets its contract. Assumes nothing.
 use mathlib.Core.Path.{_≡_, _∙_}
 use mathlib.Core.Logic.{⊎-elim}
 use mir.Syntax.{w32}
 use mir.Val.{toZ, ofZ}
 use Rattle.state.specs.State.{memory}
-use Rattle.step.proofs.Rests.{old-rest, finish-rest}
+use Rattle.rests.proofs.Rests.{old-rest, finish-rest}
 use borrow.Author.Needs.{needs}
-use Rattle.step.proofs.with_record.Statement.{statement}
-use Rattle.step.proofs.with_record.Tie as tie
+use Rattle.rests.proofs.with_record.Statement.{statement}
+use Rattle.rests.proofs.with_record.Tie as tie
 
 returns : tie.Need-returns
 returns c =

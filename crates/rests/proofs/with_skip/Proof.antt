@@ -1,4 +1,4 @@
--- `step::with_skip` meets its contract. Assumes nothing.
+-- `rests::with_skip` meets its contract. Assumes nothing.
 use mathlib.Core.Path.{_≡_, sym, _∙_}
 use native.Mathlib.Omega.{arith}
 use borrow.Author.Needs.{needs}
@@ -6,9 +6,9 @@ use mir.Syntax.{w32}
 use mir.Val.{SFits, toZ, ofZ}
 use lib.Signed.{mag}
 use Rattle.num.proofs.Signs.{below-zero, not-below-zero}
-use Rattle.step.proofs.Rests.{skip-out, skip-negative, skip-got}
-use Rattle.step.proofs.with_skip.Statement.{statement}
-use Rattle.step.proofs.with_skip.Tie as tie
+use Rattle.rests.proofs.Rests.{skip-out, skip-negative, skip-got}
+use Rattle.rests.proofs.with_skip.Statement.{statement}
+use Rattle.rests.proofs.with_skip.Tie as tie
 
 returns : tie.Need-returns
 returns c m =
