@@ -15,11 +15,10 @@ use mir.Syntax.{w32}
 use mir.Val.{SFits, ofZ}
 use Rattle.refusal.specs.declared.Refusal.the-variants.{BadState, NotLast}
 use Rattle.state.specs.State.{same, xOf, yOf, tenOf, withPlayer}
-use Rattle.state.specs.Reading.{Event}
 use Rattle.state.specs.declared.Entries.{Entries}
 use Rattle.state.proofs.Numbers.{client-is}
 use Rattle.back.specs.Board.{board, goodBoard}
-use Rattle.back.specs.Back.{was, refused, onlyIf, sameAll, unPresent, unOld, formerInput, unInput, takeOff, stepBack, steppedFrom}
+use Rattle.back.specs.Back.{was, refused, onlyIf, sameAll, unPresent, unOld, formerInput, unInput, Undo, takeOff, takeBack, steppedFrom}
 use Rattle.back.specs.declared.BoardTick.{BoardTick}
 use Rattle.back.specs.declared.BoardTick.the-variants.{In}
 use Rattle.back.specs.declared.Board.{Board}
@@ -68,14 +67,12 @@ module _ (t : ℤ) (e : Entries) (z : ℤ) (b : ℕ) (f : SFits w32 z) (q : b �
 
 -- ---- the whole step: b is the board, g the flag of its test
 
-module _ (b : Board) (e : Event) (ten former : List ℤ) (g : Bool) (q : g ≡ goodBoard b) where
-  pub bad : not g ≡ true → refused BadState ≡ stepBack b e ten former
-  unfolding stepBack
+module _ (b : Board) (u : Undo) (g : Bool) (q : g ≡ goodBoard b) where
+  pub bad : not g ≡ true → refused BadState ≡ takeBack b u
   bad n = rw (← q, not-true g n)
 
   pub good-in : not g ≡ false → (t : BoardTick) → b .tick ≡ t
-      → steppedFrom (board t (b .entries)) (takeOff e ten former t (b .entries)) ≡ steppedFrom b (stepBack b e ten former)
-  unfolding stepBack
+      → steppedFrom (board t (b .entries)) (takeOff u t (b .entries)) ≡ steppedFrom b (takeBack b u)
   good-in n t p = rw (← q, not-false g n, ← p)
 
 -- ---- ten numbers compared

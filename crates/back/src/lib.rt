@@ -9,6 +9,7 @@ ghost use lib.Signed.{nonNeg};
 ghost use Rattle.refusal.specs.declared.Refusal.the-variants.{NotLast};
 ghost use Rattle.state.specs.State.{same, withPlayer, withInput};
 ghost use Rattle.state.specs.Views.{eventIs};
+ghost use Rattle.lookups.specs.Lookups.{posOf, inputFor};
 ghost use Rattle.back.specs.Board.{board, boardOf, goodTick, goodBoard};
 ghost use Rattle.back.specs.Back.{
   was,
@@ -19,11 +20,16 @@ ghost use Rattle.back.specs.Back.{
   unOld,
   formerInput,
   unInput,
+  undoOf,
   takeOff,
+  takeBack,
   stepBack,
+  undoIs,
   steppedFrom,
 };
 ghost use Rattle.back.specs.declared.BoardTick.the-variants.{In, NoTick};
+use lookups::InputOf;
+use lookups::Pos;
 use refusal::Refusal;
 use state::Entries;
 use state::Event;
@@ -51,6 +57,34 @@ pub struct SteppedBack {
     pub board: Board,
 }
 
+// What a step back has to know of an event; the ten numbers of an input and the former ten stand beside it.
+pub enum Undo {
+    Start(i32),
+    End(i32),
+    New {
+        cid: i32,
+        x: i32,
+        y: i32,
+    },
+    Change {
+        cid: i32,
+        x: i32,
+        y: i32,
+        old_x: i32,
+        old_y: i32,
+    },
+    Old {
+        cid: i32,
+        x: i32,
+        y: i32,
+    },
+    Input {
+        cid: i32,
+        former: bool,
+    },
+    Nothing,
+}
+
 // The board of a reader.
 pub fn board_of(reader: Reader) -> Board
     ensures { λ r. ⌜ r ≡ boardOf reader ⌝ }
@@ -68,6 +102,22 @@ pub fn board_of(reader: Reader) -> Board
         tick: BoardTick::NoTick,
         entries,
     }
+}
+
+// The position of a client, or none.
+pub fn player_pos(board: Board, cid: i32) -> Pos
+    ensures { λ r. ⌜ r ≡ posOf (board .entries) cid ⌝ }
+{
+    let entries = board.entries;
+    lookups::player_pos(entries, cid)
+}
+
+// The ten input numbers of a client, or none.
+pub fn input(board: Board, cid: i32) -> InputOf
+    ensures { λ r. ⌜ r ≡ inputFor (board .entries) cid ⌝ }
+{
+    let entries = board.entries;
+    lookups::input(entries, cid)
 }
 
 fn same_number(a: i32, b: i32) -> bool
@@ -257,29 +307,23 @@ fn un_start(t: i32, entries: Entries, u: i32) -> SteppedBack
 }
 
 // An event taken off a board inside tick t.
-fn inside(
-    t: i32,
-    entries: Entries,
-    event: Event,
-    input: [i32; 10],
-    former: [i32; 10],
-) -> SteppedBack
-    ensures { λ r. ⌜ r ≡ steppedFrom (board (In t) entries) (takeOff (eventIs event) input former (In t) entries) ⌝ }
+fn inside(t: i32, entries: Entries, undo: Undo, input: [i32; 10], former: [i32; 10]) -> SteppedBack
+    ensures { λ r. ⌜ r ≡ steppedFrom (board (In t) entries) (takeOff (undoIs undo input former) (In t) entries) ⌝ }
 {
-    match event {
-        Event::TickStart(u) => un_start(t, entries, u),
-        Event::TickEnd(_) => not_last(BoardTick::In(t), entries),
-        Event::PlayerNew { cid, x, y } => un_present(t, entries, cid, x, y, 0, 0, 0),
-        Event::PlayerChange {
+    match undo {
+        Undo::Start(u) => un_start(t, entries, u),
+        Undo::End(_) => not_last(BoardTick::In(t), entries),
+        Undo::New { cid, x, y } => un_present(t, entries, cid, x, y, 0, 0, 0),
+        Undo::Change {
             cid,
             x,
             y,
             old_x,
             old_y,
         } => un_present(t, entries, cid, x, y, 1, old_x, old_y),
-        Event::PlayerOld { cid, x, y } => un_old(t, entries, cid, x, y),
-        Event::Input { cid, former: had } => un_input(t, entries, cid, had, input, former),
-        Event::Record(_) => stepped(BoardTick::In(t), entries),
+        Undo::Old { cid, x, y } => un_old(t, entries, cid, x, y),
+        Undo::Input { cid, former: had } => un_input(t, entries, cid, had, input, former),
+        Undo::Nothing => stepped(BoardTick::In(t), entries),
     }
 }
 
@@ -293,31 +337,59 @@ fn un_end(entries: Entries, u: i32) -> SteppedBack
 }
 
 // An event taken off a board outside any tick: only TickEnd fits.
-fn outside(entries: Entries, event: Event) -> SteppedBack
+fn outside(entries: Entries, undo: Undo) -> SteppedBack
     ensures { λ r. ⌜
-        ((input former : List ℤ) → r ≡ steppedFrom (board NoTick entries) (takeOff (eventIs event) input former NoTick entries))
+        ((input former : List ℤ) → r ≡ steppedFrom (board NoTick entries) (takeOff (undoIs undo input former) NoTick entries))
         ⌝ }
 {
-    match event {
-        Event::TickStart(_) => not_last(BoardTick::NoTick, entries),
-        Event::TickEnd(u) => un_end(entries, u),
-        Event::PlayerNew { cid: _, x: _, y: _ } => not_last(BoardTick::NoTick, entries),
-        Event::PlayerChange {
+    match undo {
+        Undo::Start(_) => not_last(BoardTick::NoTick, entries),
+        Undo::End(u) => un_end(entries, u),
+        Undo::New { cid: _, x: _, y: _ } => not_last(BoardTick::NoTick, entries),
+        Undo::Change {
             cid: _,
             x: _,
             y: _,
             old_x: _,
             old_y: _,
         } => not_last(BoardTick::NoTick, entries),
-        Event::PlayerOld { cid: _, x: _, y: _ } => not_last(BoardTick::NoTick, entries),
-        Event::Input { cid: _, former: _ } => not_last(BoardTick::NoTick, entries),
-        Event::Record(_) => not_last(BoardTick::NoTick, entries),
+        Undo::Old { cid: _, x: _, y: _ } => not_last(BoardTick::NoTick, entries),
+        Undo::Input { cid: _, former: _ } => not_last(BoardTick::NoTick, entries),
+        Undo::Nothing => not_last(BoardTick::NoTick, entries),
     }
 }
 
-// One step back: the board before the event, of its ten numbers and the former ten (of an Input event; else they are not looked at).
-pub fn step_back(board: Board, event: Event, input: [i32; 10], former: [i32; 10]) -> SteppedBack
-    ensures { λ r. ⌜ r ≡ steppedFrom board (stepBack board (eventIs event) input former) ⌝ }
+// What a step back over the event has to know of it.
+pub fn undo_of(event: Event) -> Undo
+    ensures { λ r. ⌜ ((input former : List ℤ) → undoIs r input former ≡ undoOf (eventIs event) input former) ⌝ }
+{
+    match event {
+        Event::TickStart(tick) => Undo::Start(tick),
+        Event::TickEnd(tick) => Undo::End(tick),
+        Event::PlayerNew { cid, x, y } => Undo::New { cid, x, y },
+        Event::PlayerChange {
+            cid,
+            x,
+            y,
+            old_x,
+            old_y,
+        } => Undo::Change {
+            cid,
+            x,
+            y,
+            old_x,
+            old_y,
+        },
+        Event::PlayerOld { cid, x, y } => Undo::Old { cid, x, y },
+        Event::Input { cid, former } => Undo::Input { cid, former },
+        Event::Record(_) => Undo::Nothing,
+    }
+}
+
+// One step back over an event that is known by its undo: the board before it, of its ten numbers and the former ten (of an input; else
+// they are not looked at).
+pub fn take_back(board: Board, undo: Undo, input: [i32; 10], former: [i32; 10]) -> SteppedBack
+    ensures { λ r. ⌜ r ≡ steppedFrom board (takeBack board (undoIs undo input former)) ⌝ }
 {
     let tick = board.tick;
     let entries = board.entries;
@@ -325,7 +397,14 @@ pub fn step_back(board: Board, event: Event, input: [i32; 10], former: [i32; 10]
         return refuse(board, Refusal::BadState);
     }
     match tick {
-        BoardTick::In(t) => inside(t, entries, event, input, former),
-        BoardTick::NoTick => outside(entries, event),
+        BoardTick::In(t) => inside(t, entries, undo, input, former),
+        BoardTick::NoTick => outside(entries, undo),
     }
+}
+
+// One step back over an event.
+pub fn step_back(board: Board, event: Event, input: [i32; 10], former: [i32; 10]) -> SteppedBack
+    ensures { λ r. ⌜ r ≡ steppedFrom board (stepBack board (eventIs event) input former) ⌝ }
+{
+    take_back(board, undo_of(event), input, former)
 }

@@ -1,6 +1,6 @@
 -- The input records by the tests that the code makes: b is the client's bits. Assumes nothing.
 use Prim.Native.Nat.{ℕ, _≤_, _<_}
-use mathlib.Core.Path.{_≡_, refl}
+use mathlib.Core.Path.{_≡_}
 use mathlib.Core.Bool.{true}
 use mathlib.Core.List.{List}
 use native.Mathlib.Omega.{arith}
@@ -10,27 +10,22 @@ use lib.IntN.{ℤ, pos, negsuc}
 use borrow.Author.Tests.{lt-ltb, le-ltb}
 use mir.Syntax.{w32}
 use mir.Val.{SFits, ofZ}
-use Rattle.refusal.specs.declared.Refusal.the-variants.{InvalidClientId, ClientTooLarge, InputDiffWithoutNew}
+use Rattle.refusal.specs.declared.Refusal.the-variants.{ClientTooLarge, InputDiffWithoutNew}
 use Rattle.item.specs.Said.{gives}
 use Rattle.state.specs.State.{Memory, holds, tenOf}
 use Rattle.state.specs.Reading.{input, step, refusal, sums, changed, inputDiff, inputNew}
+use Rattle.state.specs.Inside.{noEntry}
 use Rattle.state.specs.declared.Scalars.{Scalars}
 use Rattle.state.proofs.Numbers.{picks-first, picks-second, client-is}
 use Rattle.state.proofs.Marks.{here, away, far}
 
 -- ---- InputDiff
 
-pub diff-negative : (s : Scalars) (m : Memory) (z : ℤ) (ds : List ℤ) (n b : ℕ) → SFits w32 z → b ≡ ofZ w32 z → 2147483648 ≤ b
-    → refusal InvalidClientId s m ≡ inputDiff s m z ds n
+pub diff-far : (s : Scalars) (m : Memory) (z : ℤ) (ds : List ℤ) (n b : ℕ) → SFits w32 z → b ≡ ofZ w32 z → 128 ≤ b
+    → refusal (noEntry b InputDiffWithoutNew) s m ≡ inputDiff s m z ds n
 unfolding inputDiff
-diff-negative s m (pos c) ds n b f e h = absurd (omega (arith, f .sfits))
-diff-negative s m (negsuc c) ds n b f e h = refl
-
-pub diff-far : (s : Scalars) (m : Memory) (z : ℤ) (ds : List ℤ) (n b : ℕ) → SFits w32 z → b ≡ ofZ w32 z → b < 2147483648 → 128 ≤ b
-    → refusal InputDiffWithoutNew s m ≡ inputDiff s m z ds n
-unfolding inputDiff
-diff-far s m (pos c) ds n b f e l h = picks-second (holds (m .entries) c) _ _ (far (m .entries .held) c (omega arith))
-diff-far s m (negsuc c) ds n b f e l h = absurd (omega (arith, f .sfits))
+diff-far s m (pos c) ds n b f e h = rw (e, lt-ltb c 2147483648 (f .sfits)) (picks-second (holds (m .entries) c) _ _ (far (m .entries .held) c (omega arith)))
+diff-far s m (negsuc c) ds n b f e h = rw (le-ltb b 2147483648 (omega (arith, f .sfits)))
 
 module _ (s : Scalars) (m : Memory) (z : ℤ) (ds : List ℤ) (n b : ℕ) (f : SFits w32 z) (e : b ≡ ofZ w32 z) (h : b < 128) where
   pub diff-away : (getD (m .entries .held) b 0 ≡ 1 → ⊥) → refusal InputDiffWithoutNew s m ≡ inputDiff s m z ds n
@@ -44,17 +39,11 @@ module _ (s : Scalars) (m : Memory) (z : ℤ) (ds : List ℤ) (n b : ℕ) (f : S
 
 -- ---- InputNew
 
-pub new-negative : (s : Scalars) (m : Memory) (z : ℤ) (ns : List ℤ) (n b : ℕ) → SFits w32 z → b ≡ ofZ w32 z → 2147483648 ≤ b
-    → refusal InvalidClientId s m ≡ inputNew s m z ns n
+pub new-far : (s : Scalars) (m : Memory) (z : ℤ) (ns : List ℤ) (n b : ℕ) → SFits w32 z → b ≡ ofZ w32 z → 128 ≤ b
+    → refusal (noEntry b ClientTooLarge) s m ≡ inputNew s m z ns n
 unfolding inputNew
-new-negative s m (pos c) ns n b f e h = absurd (omega (arith, f .sfits))
-new-negative s m (negsuc c) ns n b f e h = refl
-
-pub new-far : (s : Scalars) (m : Memory) (z : ℤ) (ns : List ℤ) (n b : ℕ) → SFits w32 z → b ≡ ofZ w32 z → b < 2147483648 → 128 ≤ b
-    → refusal ClientTooLarge s m ≡ inputNew s m z ns n
-unfolding inputNew
-new-far s m (pos c) ns n b f e l h = picks-second (ltb c 128) _ _ (le-ltb c 128 (omega arith))
-new-far s m (negsuc c) ns n b f e l h = absurd (omega (arith, f .sfits))
+new-far s m (pos c) ns n b f e h = rw (e, lt-ltb c 2147483648 (f .sfits)) (picks-second (ltb c 128) _ _ (le-ltb c 128 (omega arith)))
+new-far s m (negsuc c) ns n b f e h = rw (le-ltb b 2147483648 (omega (arith, f .sfits)))
 
 -- the event tells whether there was an input before, by the mark
 pub new-here : (s : Scalars) (m : Memory) (z : ℤ) (ns : List ℤ) (n b : ℕ) → SFits w32 z → b ≡ ofZ w32 z → b < 128

@@ -1,17 +1,13 @@
 // The input records on entries that are lent, with the ten numbers and the former ten. No input record touches the player entries.
 ghost use mathlib.Core.Path.{_≡_};
-ghost use mathlib.Core.List.{List};
-ghost use Prim.Native.Nat.{ℕ, _<_};
+ghost use Prim.Native.Nat.{_<_};
 ghost use mathlib.Core.Bool.{cond};
 ghost use lib.Dec.{ltb};
-ghost use lib.IntN.{ℤ};
 ghost use Rattle.fields.specs.Views.{zeros};
-ghost use Rattle.state.specs.State.{memory, tenOf, putTen};
+ghost use Rattle.state.specs.State.{Memory, tenOf, putTen};
 ghost use Rattle.state.specs.Reading.{sums, inputDiff, inputNew};
-ghost use Rattle.state.specs.Views.{done};
-ghost use Rattle.inputs.specs.Outcomes.{inputOutcome};
+ghost use Rattle.state.specs.Inside.{OnInputs};
 use refusal::Refusal;
-use state::Answer;
 use state::Event;
 use state::Outcome;
 use state::Scalars;
@@ -56,18 +52,6 @@ fn add_ten(f: [i32; 10], d: [i32; 10]) -> [i32; 10]
     t
 }
 
-fn event(s: Scalars, cid: i32, former: bool, used: usize) -> Outcome
-    ensures { λ r. ⌜ r ≡ inputOutcome s cid former used ⌝ }
-{
-    Outcome {
-        answer: Answer::Event {
-            event: Event::Input { cid, former },
-            used,
-        },
-        scalars: s,
-    }
-}
-
 pub fn input_diff(
     s: Scalars,
     held: &mut [u8; 128],
@@ -78,18 +62,11 @@ pub fn input_diff(
     ds: [i32; 10],
     used: usize,
 ) -> Outcome
-    ensures { λ r. ⌜
-        ((marks : List ℕ) (xs ys : List ℤ) →
-        done r (memory marks xs ys (now (held .exit)) (now (inputs .exit)) (now (input .exit)) (now (former .exit)))
-        ≡ inputDiff s (memory marks xs ys (now (held .entry)) (now (inputs .entry)) (now (input .entry)) (now (former .entry))) cid ds used)
-        ⌝ }
+    ensures { λ r. ⌜ OnInputs (λ (m : Memory). inputDiff s m cid ds used) r (now (held .entry)) (now (inputs .entry)) (now (input .entry)) (now (former .entry)) (now (held .exit)) (now (inputs .exit)) (now (input .exit)) (now (former .exit)) ⌝ }
 {
     let bits = num::bits(cid);
-    if 2147483648 <= bits {
-        return state::refuse(s, Refusal::InvalidClientId);
-    }
     if 128 <= bits {
-        return state::refuse(s, Refusal::InputDiffWithoutNew);
+        return state::refuse(s, state::no_entry(bits, Refusal::InputDiffWithoutNew));
     }
     let c = bits as usize;
     if held[c] != 1 {
@@ -101,7 +78,7 @@ pub fn input_diff(
     *input = new;
     *former = old;
     held[c] = 1;
-    event(s, cid, true, used)
+    state::gave(Event::Input { cid, former: true }, used, s)
 }
 
 pub fn input_new(
@@ -114,18 +91,11 @@ pub fn input_new(
     ns: [i32; 10],
     used: usize,
 ) -> Outcome
-    ensures { λ r. ⌜
-        ((marks : List ℕ) (xs ys : List ℤ) →
-        done r (memory marks xs ys (now (held .exit)) (now (inputs .exit)) (now (input .exit)) (now (former .exit)))
-        ≡ inputNew s (memory marks xs ys (now (held .entry)) (now (inputs .entry)) (now (input .entry)) (now (former .entry))) cid ns used)
-        ⌝ }
+    ensures { λ r. ⌜ OnInputs (λ (m : Memory). inputNew s m cid ns used) r (now (held .entry)) (now (inputs .entry)) (now (input .entry)) (now (former .entry)) (now (held .exit)) (now (inputs .exit)) (now (input .exit)) (now (former .exit)) ⌝ }
 {
     let bits = num::bits(cid);
-    if 2147483648 <= bits {
-        return state::refuse(s, Refusal::InvalidClientId);
-    }
     if 128 <= bits {
-        return state::refuse(s, Refusal::ClientTooLarge);
+        return state::refuse(s, state::no_entry(bits, Refusal::ClientTooLarge));
     }
     let c = bits as usize;
     let mark = held[c];
@@ -134,7 +104,11 @@ pub fn input_new(
     *input = ns;
     *former = old;
     held[c] = 1;
-    event(s, cid, mark == 1, used)
+    let event = Event::Input {
+        cid,
+        former: mark == 1,
+    };
+    state::gave(event, used, s)
 }
 
 // The ten numbers of a client; zeros where it has no entry.

@@ -82,12 +82,20 @@ pub data Beside : Type 0 where
   arguments : Beside
   ofExtension : Beside
 
--- which of the tick's rules a kind is under: a player record of a client, Finish, TickSkip, or another
+-- what a player record does
+pub data Change : Type 0 where
+  moves : Change
+  comes : Change
+  leaves : Change
+
+-- what the tick rules tell apart: a player record of a client; an input, and whether it is an InputNew; TickSkip; Finish; any other record,
+-- and whether it is an extension
 pub data Sort : Type 0 where
-  player : ℤ → Sort
-  finish : Sort
+  player : Change → ℤ → Sort
+  input : Bool → Sort
   skip : Sort
-  other : Sort
+  finish : Sort
+  other : Bool → Sort
 
 pub record KindRow : Type 0 where
   pub number : ℤ
@@ -100,18 +108,18 @@ abbrev row : ℤ → Client → List Field → Beside → Sort → KindRow
 row z c fs b r = record { number = z; client = c; own = fs; beside = b; sort = r }
 
 abbrev pub kindRow : Kind → KindRow
-kindRow (PlayerDiff c) = row c (isNumber c) (int ∷ int ∷ []) nothing (player c)
+kindRow (PlayerDiff c) = row c (isNumber c) (int ∷ int ∷ []) nothing (player moves c)
 kindRow Finish = row (negsuc 0) nowhere [] nothing finish
 kindRow TickSkip = row (negsuc 1) nowhere (dt ∷ []) nothing skip
-kindRow (PlayerNew c) = row (negsuc 2) (following c) (int ∷ int ∷ []) nothing (player c)
-kindRow (PlayerOld c) = row (negsuc 3) (following c) [] nothing (player c)
-kindRow InputDiff = row (negsuc 4) first (int ∷ []) ten other
-kindRow InputNew = row (negsuc 5) first (int ∷ []) ten other
-kindRow Message = row (negsuc 6) first (int ∷ blob ∷ []) nothing other
-kindRow Join = row (negsuc 7) first (int ∷ []) nothing other
-kindRow Drop = row (negsuc 8) first (int ∷ str ∷ []) nothing other
-kindRow ConsoleCommand = row (negsuc 9) first (int ∷ mask ∷ str ∷ []) arguments other
-kindRow Ex = row (negsuc 10) nowhere [] ofExtension other
+kindRow (PlayerNew c) = row (negsuc 2) (following c) (int ∷ int ∷ []) nothing (player comes c)
+kindRow (PlayerOld c) = row (negsuc 3) (following c) [] nothing (player leaves c)
+kindRow InputDiff = row (negsuc 4) first (int ∷ []) ten (input false)
+kindRow InputNew = row (negsuc 5) first (int ∷ []) ten (input true)
+kindRow Message = row (negsuc 6) first (int ∷ blob ∷ []) nothing (other false)
+kindRow Join = row (negsuc 7) first (int ∷ []) nothing (other false)
+kindRow Drop = row (negsuc 8) first (int ∷ str ∷ []) nothing (other false)
+kindRow ConsoleCommand = row (negsuc 9) first (int ∷ mask ∷ str ∷ []) arguments (other false)
+kindRow Ex = row (negsuc 10) nowhere [] ofExtension (other true)
 
 -- a kind whose records have arguments beside them
 abbrev pub hasArguments : Beside → Bool
@@ -130,6 +138,9 @@ inputKind false = InputDiff
 
 abbrev pub kindNumber : Kind → ℤ
 kindNumber k = kindRow k .number
+
+abbrev pub sortOf : Kind → Sort
+sortOf k = kindRow k .sort
 
 -- the client of a record of a kind, whose first number this is
 abbrev pub clientIs : Client → ℤ → Cid

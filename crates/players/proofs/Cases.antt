@@ -9,7 +9,6 @@ use borrow.Author.Tests.{lt-ltb, le-ltb}
 use mir.Syntax.{w32}
 use mir.Val.{SFits, ofZ}
 use Rattle.refusal.specs.declared.Refusal.the-variants.{
-  InvalidClientId,
   ClientTooLarge,
   PlayerNewDuplicate,
   PlayerDiffWithoutNew,
@@ -19,6 +18,7 @@ use Rattle.num.specs.Wrap.{wrap32}
 use Rattle.item.specs.Said.{gives}
 use Rattle.state.specs.State.{Memory, withEntries, present, xOf, yOf, withPlayer, moved}
 use Rattle.state.specs.Reading.{playerNew, playerChange, playerOld, step, refusal, playerDiff, newPlayer, oldPlayer}
+use Rattle.state.specs.Inside.{noEntry}
 use Rattle.state.specs.declared.Scalars.{Scalars}
 use Rattle.state.proofs.Numbers.{picks-first, picks-second, client-is}
 use Rattle.state.proofs.Marks.{here, away, far}
@@ -45,17 +45,11 @@ module _ (s : Scalars) (m : Memory) (z dx dy : ℤ) (n b : ℕ) (f : SFits w32 z
 
 -- ---- PlayerNew
 
-pub new-negative : (s : Scalars) (m : Memory) (z x y : ℤ) (n b : ℕ) → SFits w32 z → b ≡ ofZ w32 z → 2147483648 ≤ b
-    → refusal InvalidClientId s m ≡ newPlayer s m z x y n
+pub new-far : (s : Scalars) (m : Memory) (z x y : ℤ) (n b : ℕ) → SFits w32 z → b ≡ ofZ w32 z → 128 ≤ b
+    → refusal (noEntry b ClientTooLarge) s m ≡ newPlayer s m z x y n
 unfolding newPlayer
-new-negative s m (pos c) x y n b f e h = absurd (omega (arith, f .sfits))
-new-negative s m (negsuc c) x y n b f e h = refl
-
-pub new-far : (s : Scalars) (m : Memory) (z x y : ℤ) (n b : ℕ) → SFits w32 z → b ≡ ofZ w32 z → b < 2147483648 → 128 ≤ b
-    → refusal ClientTooLarge s m ≡ newPlayer s m z x y n
-unfolding newPlayer
-new-far s m (pos c) x y n b f e l h = picks-second (ltb c 128) _ _ (le-ltb c 128 (omega arith))
-new-far s m (negsuc c) x y n b f e l h = absurd (omega (arith, f .sfits))
+new-far s m (pos c) x y n b f e h = rw (e, lt-ltb c 2147483648 (f .sfits)) (picks-second (ltb c 128) _ _ (le-ltb c 128 (omega arith)))
+new-far s m (negsuc c) x y n b f e h = rw (le-ltb b 2147483648 (omega (arith, f .sfits)))
 
 module _ (s : Scalars) (m : Memory) (z x y : ℤ) (n b : ℕ) (f : SFits w32 z) (e : b ≡ ofZ w32 z) (h : b < 128) where
   pub new-here : getD (m .entries .marks) b 0 ≡ 1
@@ -74,17 +68,11 @@ module _ (s : Scalars) (m : Memory) (z x y : ℤ) (n b : ℕ) (f : SFits w32 z) 
 
 -- ---- PlayerOld
 
-pub old-negative : (s : Scalars) (m : Memory) (z : ℤ) (n b : ℕ) → SFits w32 z → b ≡ ofZ w32 z → 2147483648 ≤ b
-    → refusal InvalidClientId s m ≡ oldPlayer s m z n
+pub old-far : (s : Scalars) (m : Memory) (z : ℤ) (n b : ℕ) → SFits w32 z → b ≡ ofZ w32 z → 128 ≤ b
+    → refusal (noEntry b PlayerOldWithoutNew) s m ≡ oldPlayer s m z n
 unfolding oldPlayer
-old-negative s m (pos c) n b f e h = absurd (omega (arith, f .sfits))
-old-negative s m (negsuc c) n b f e h = refl
-
-pub old-far : (s : Scalars) (m : Memory) (z : ℤ) (n b : ℕ) → SFits w32 z → b ≡ ofZ w32 z → b < 2147483648 → 128 ≤ b
-    → refusal PlayerOldWithoutNew s m ≡ oldPlayer s m z n
-unfolding oldPlayer
-old-far s m (pos c) n b f e l h = picks-second (present (m .entries) c) _ _ (far (m .entries .marks) c (omega arith))
-old-far s m (negsuc c) n b f e l h = absurd (omega (arith, f .sfits))
+old-far s m (pos c) n b f e h = rw (e, lt-ltb c 2147483648 (f .sfits)) (picks-second (present (m .entries) c) _ _ (far (m .entries .marks) c (omega arith)))
+old-far s m (negsuc c) n b f e h = rw (le-ltb b 2147483648 (omega (arith, f .sfits)))
 
 module _ (s : Scalars) (m : Memory) (z : ℤ) (n b : ℕ) (f : SFits w32 z) (e : b ≡ ofZ w32 z) (h : b < 128) where
   pub old-away : (getD (m .entries .marks) b 0 ≡ 1 → ⊥) → refusal PlayerOldWithoutNew s m ≡ oldPlayer s m z n

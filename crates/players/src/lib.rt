@@ -1,13 +1,8 @@
 // The player records on entries that are lent. The other arrays stand in each promise as any lists: no player record touches them.
-ghost use mathlib.Core.Path.{_≡_};
-ghost use mathlib.Core.List.{List};
-ghost use Prim.Native.Nat.{ℕ};
-ghost use lib.IntN.{ℤ};
-ghost use Rattle.state.specs.State.{memory};
+ghost use Rattle.state.specs.State.{Memory};
 ghost use Rattle.state.specs.Reading.{playerDiff, newPlayer, oldPlayer};
-ghost use Rattle.state.specs.Views.{done};
+ghost use Rattle.state.specs.Inside.{OnPlayers};
 use refusal::Refusal;
-use state::Answer;
 use state::Event;
 use state::Outcome;
 use state::Scalars;
@@ -22,11 +17,7 @@ pub fn player_diff(
     dy: i32,
     used: usize,
 ) -> Outcome
-    ensures { λ r. ⌜
-        ((held : List ℕ) (inputs input former : List ℤ) →
-        done r (memory (now (marks .exit)) (now (xs .exit)) (now (ys .exit)) held inputs input former)
-        ≡ playerDiff s (memory (now (marks .entry)) (now (xs .entry)) (now (ys .entry)) held inputs input former) cid dx dy used)
-        ⌝ }
+    ensures { λ r. ⌜ OnPlayers (λ (m : Memory). playerDiff s m cid dx dy used) r (now (marks .entry)) (now (xs .entry)) (now (ys .entry)) (now (marks .exit)) (now (xs .exit)) (now (ys .exit)) ⌝ }
 {
     let bits = num::bits(cid);
     if 128 <= bits {
@@ -42,19 +33,14 @@ pub fn player_diff(
     let y = num::wrapping_add(old_y, dy);
     xs[i] = x;
     ys[i] = y;
-    Outcome {
-        answer: Answer::Event {
-            event: Event::PlayerChange {
-                cid,
-                x,
-                y,
-                old_x,
-                old_y,
-            },
-            used,
-        },
-        scalars: s,
-    }
+    let event = Event::PlayerChange {
+        cid,
+        x,
+        y,
+        old_x,
+        old_y,
+    };
+    state::gave(event, used, s)
 }
 
 pub fn player_new(
@@ -67,18 +53,11 @@ pub fn player_new(
     y: i32,
     used: usize,
 ) -> Outcome
-    ensures { λ r. ⌜
-        ((held : List ℕ) (inputs input former : List ℤ) →
-        done r (memory (now (marks .exit)) (now (xs .exit)) (now (ys .exit)) held inputs input former)
-        ≡ newPlayer s (memory (now (marks .entry)) (now (xs .entry)) (now (ys .entry)) held inputs input former) cid x y used)
-        ⌝ }
+    ensures { λ r. ⌜ OnPlayers (λ (m : Memory). newPlayer s m cid x y used) r (now (marks .entry)) (now (xs .entry)) (now (ys .entry)) (now (marks .exit)) (now (xs .exit)) (now (ys .exit)) ⌝ }
 {
     let bits = num::bits(cid);
-    if 2147483648 <= bits {
-        return state::refuse(s, Refusal::InvalidClientId);
-    }
     if 128 <= bits {
-        return state::refuse(s, Refusal::ClientTooLarge);
+        return state::refuse(s, state::no_entry(bits, Refusal::ClientTooLarge));
     }
     let i = bits as usize;
     let mark = marks[i];
@@ -88,13 +67,7 @@ pub fn player_new(
     if mark == 1 {
         return state::refuse(s, Refusal::PlayerNewDuplicate);
     }
-    Outcome {
-        answer: Answer::Event {
-            event: Event::PlayerNew { cid, x, y },
-            used,
-        },
-        scalars: s,
-    }
+    state::gave(Event::PlayerNew { cid, x, y }, used, s)
 }
 
 pub fn player_old(
@@ -105,18 +78,11 @@ pub fn player_old(
     cid: i32,
     used: usize,
 ) -> Outcome
-    ensures { λ r. ⌜
-        ((held : List ℕ) (inputs input former : List ℤ) →
-        done r (memory (now (marks .exit)) (now (xs .exit)) (now (ys .exit)) held inputs input former)
-        ≡ oldPlayer s (memory (now (marks .entry)) (now (xs .entry)) (now (ys .entry)) held inputs input former) cid used)
-        ⌝ }
+    ensures { λ r. ⌜ OnPlayers (λ (m : Memory). oldPlayer s m cid used) r (now (marks .entry)) (now (xs .entry)) (now (ys .entry)) (now (marks .exit)) (now (xs .exit)) (now (ys .exit)) ⌝ }
 {
     let bits = num::bits(cid);
-    if 2147483648 <= bits {
-        return state::refuse(s, Refusal::InvalidClientId);
-    }
     if 128 <= bits {
-        return state::refuse(s, Refusal::PlayerOldWithoutNew);
+        return state::refuse(s, state::no_entry(bits, Refusal::PlayerOldWithoutNew));
     }
     let i = bits as usize;
     if marks[i] != 1 {
@@ -127,11 +93,5 @@ pub fn player_old(
     marks[i] = 0;
     xs[i] = 0;
     ys[i] = 0;
-    Outcome {
-        answer: Answer::Event {
-            event: Event::PlayerOld { cid, x, y },
-            used,
-        },
-        scalars: s,
-    }
+    state::gave(Event::PlayerOld { cid, x, y }, used, s)
 }

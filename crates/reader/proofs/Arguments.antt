@@ -13,6 +13,7 @@ use Rattle.item.specs.Said.{Said, gives, more, finish, refuses}
 use Rattle.item.specs.Records.{Content, content, readRest}
 use Rattle.item.specs.Contents.{itemOf, beside, withBeside, noArgs, recordOf, tidyKind, tidyTag}
 use Rattle.kinds.specs.Views.{kindIs}
+use Rattle.item.specs.declared.Item.{Item}
 use Rattle.kinds.specs.declared.Kind.{Kind}
 use Rattle.kinds.specs.declared.Kind.the-variants as kinds
 use Rattle.kinds.specs.declared.KindRead.{KindRead}
@@ -27,6 +28,7 @@ use Rattle.records.specs.declared.RecordAnswer.{RecordAnswer}
 use Rattle.records.specs.declared.RecordAnswer.the-variants as rests
 use Rattle.records.specs.declared.RecordRead.{RecordRead}
 use Rattle.records.proofs.Beside.{own-record}
+use Rattle.state.specs.Sorts.{tagSort}
 use Rattle.state.specs.State.{Memory}
 use Rattle.state.specs.Reading.{Event, tickStart, tickEnd, playerNew, playerChange, playerOld, input, other, nextKind, openCall}
 use Rattle.state.specs.Views.{saidIs, slimSaid}
@@ -34,10 +36,13 @@ use Rattle.state.specs.declared.Scalars.{Scalars}
 use Rattle.state.specs.declared.Event.the-variants as events
 use Rattle.state.specs.declared.Answer.{Answer}
 use Rattle.state.specs.declared.Answer.the-variants as answers
-use Rattle.step.proofs.Others.{no-other, by-other, otherTag}
-use Rattle.step.proofs.Slim.{otherSaid, slim-said}
-use Rattle.reader.specs.Answers.{kindArgs, tagArgs, answerArgs, isRecord, saidWith, ArgsFor}
+use Rattle.state.proofs.Every.{by-cond}
+use Rattle.rests.specs.Kinds.{otherSort}
+use Rattle.rests.proofs.Others.{no-other, by-other}
+use Rattle.rests.proofs.Slim.{otherSaid, slim-said}
+use Rattle.reader.specs.Answers.{kindArgs, tagArgs, answerArgs, saidWith}
 use Rattle.kinds.specs.Kinds.{isCommand}
+use Rattle.reader.specs.Inside.{isRecord, ArgsFor}
 use Rattle.reader.proofs.Whole.{whole-got}
 use Rattle.reader.proofs.Records.{FromRest, FromKind, call-given}
 
@@ -88,18 +93,7 @@ said-plain (answers.Refused r) xs h = refl
 -- nothing has no arguments
 kind-none : (k : Kind) → kindArgs k noArgs ≡ noArgs
 unfolding argsWith
-kind-none (kinds.PlayerDiff c) = refl
-kind-none kinds.Finish = refl
-kind-none kinds.TickSkip = refl
-kind-none (kinds.PlayerNew c) = refl
-kind-none (kinds.PlayerOld c) = refl
-kind-none kinds.InputDiff = refl
-kind-none kinds.InputNew = refl
-kind-none kinds.Message = refl
-kind-none kinds.Join = refl
-kind-none kinds.Drop = refl
-kind-none kinds.ConsoleCommand = refl
-kind-none kinds.Ex = refl
+kind-none k = by-cond (λ (xs : Args). xs ≡ noArgs) (isCommand k) (λ _. refl) (λ _. refl)
 
 tag-none : (t : Tag) → tagArgs t noArgs ≡ noArgs
 tag-none (Plain k) = kind-none k
@@ -129,39 +123,66 @@ args-none a s w h =
 
 -- ---- a record with its arguments
 
-said-record : (a : Answer) (xs : Args) (c : Content Part) (n : ℕ) → isRecord a ≡ true → saidIs a ≡ gives (other (ownContent c)) n
-    → withBeside (ownContent c) [] xs ≡ c → saidWith a xs ≡ gives (other c) n
-said-record (answers.Event (events.TickStart t) used) xs c n h e b = no-other h
-said-record (answers.Event (events.TickEnd t) used) xs c n h e b = no-other h
-said-record (answers.Event (events.PlayerNew k x y) used) xs c n h e b = no-other h
-said-record (answers.Event (events.PlayerChange k x y old-x old-y) used) xs c n h e b = no-other h
-said-record (answers.Event (events.PlayerOld k x y) used) xs c n h e b = no-other h
-said-record (answers.Event (events.Input k former) used) xs c n h e b = no-other h
-said-record (answers.Event (events.Record i) used) xs c n h e b =
-    let p : itemOf i ≡ ownContent c = cc in
-    let q : used ≡ n = cc in
-    rw (p, q) (ap (λ (d : Content Part). gives (other d) n) b)
-said-record answers.More xs c n h e b = no-other h
-said-record (answers.Finish used) xs c n h e b = no-other h
-said-record (answers.Refused r) xs c n h e b = no-other h
+record Recorded (a : Answer) : Type 0 where
+  pub item : Item
+  pub used : ℕ
+  pub is : answers.Event (events.Record item) used ≡ a
+
+recorded : (a : Answer) → isRecord a ≡ true → Recorded a
+recorded (answers.Event (events.TickStart t) used) h = no-other h
+recorded (answers.Event (events.TickEnd t) used) h = no-other h
+recorded (answers.Event (events.PlayerNew k x y) used) h = no-other h
+recorded (answers.Event (events.PlayerChange k x y old-x old-y) used) h = no-other h
+recorded (answers.Event (events.PlayerOld k x y) used) h = no-other h
+recorded (answers.Event (events.Input k former) used) h = no-other h
+recorded (answers.Event (events.Record i) used) h = record { item = i; used = used; is = refl }
+recorded answers.More h = no-other h
+recorded (answers.Finish used) h = no-other h
+recorded (answers.Refused r) h = no-other h
+
+-- with the record's arguments it is whole, and they are no others than a record of its tag has
+module _ (xs : Args) (c : Content Part) (n : ℕ) where
+  item-whole : (i : Item) (used : ℕ) → saidIs (answers.Event (events.Record i) used) ≡ gives (other (ownContent c)) n
+      → withBeside (ownContent c) [] xs ≡ c → saidWith (answers.Event (events.Record i) used) xs ≡ gives (other c) n
+  item-whole i used e b =
+      let p : itemOf i ≡ ownContent c = cc in
+      let q : used ≡ n = cc in
+      rw (p, q) (ap (λ (d : Content Part). gives (other d) n) b)
+
+  item-kept : (i : Item) (used : ℕ) → saidIs (answers.Event (events.Record i) used) ≡ gives (other (ownContent c)) n
+      → tagArgs (c .tag) xs ≡ xs → answerArgs (answers.Event (events.Record i) used) xs ≡ xs
+  item-kept i used e b =
+      let p : itemOf i ≡ ownContent c = cc in
+      subst (λ (d : Content Part). tagArgs (d .tag) xs ≡ xs) (sym p) b
+
+  said-record : (a : Answer) → Recorded a → saidIs a ≡ gives (other (ownContent c)) n → withBeside (ownContent c) [] xs ≡ c
+      → saidWith a xs ≡ gives (other c) n
+  said-record a r =
+      subst (λ (d : Answer). saidIs d ≡ gives (other (ownContent c)) n → withBeside (ownContent c) [] xs ≡ c → saidWith d xs ≡ gives (other c) n)
+      (r .is) (item-whole (r .item) (r .used))
+
+  said-kept : (a : Answer) → Recorded a → saidIs a ≡ gives (other (ownContent c)) n → tagArgs (c .tag) xs ≡ xs → answerArgs a xs ≡ xs
+  said-kept a r =
+      subst (λ (d : Answer). saidIs d ≡ gives (other (ownContent c)) n → tagArgs (c .tag) xs ≡ xs → answerArgs d xs ≡ xs)
+      (r .is) (item-kept (r .item) (r .used))
 
 -- the ten numbers don't stand beside a record that changes no entry
-beside-other : (t : Tag) (ten : List ℤ) (xs : Args) → otherTag t ≡ true → beside t [] xs ≡ beside t ten xs
+beside-other : (t : Tag) (ten : List ℤ) (xs : Args) → otherSort (tagSort t) ≡ true → beside t [] xs ≡ beside t ten xs
 beside-other (Plain k) ten xs o = by-other (λ k. beside (Plain k) [] xs ≡ beside (Plain k) ten xs) refl refl refl refl refl k o
 beside-other (Named k) ten xs o = refl
 beside-other Other ten xs o = refl
 
-record-beside : (r : Record) → otherTag (itemOf (r .item) .tag) ≡ true → withBeside (ownContent (recordOf r)) [] (r .args) ≡ recordOf r
+record-beside : (r : Record) → otherSort (tagSort (itemOf (r .item) .tag)) ≡ true → withBeside (ownContent (recordOf r)) [] (r .args) ≡ recordOf r
 record-beside r o =
     let i = itemOf (r .item) in
     ap (λ (c : Content Part). withBeside c [] (r .args)) (sym (own-record r))
     ∙ ap (λ (vs : List (Value Part)). content (i .tag) (i .values ++ vs)) (beside-other (i .tag) (r .input) (r .args) o)
 
-answer-beside : (a : RecordAnswer) (r : Record) (c : Content Part) (n : ℕ) → answerIs a r ≡ got c n → otherTag (c .tag) ≡ true
+answer-beside : (a : RecordAnswer) (r : Record) (c : Content Part) (n : ℕ) → answerIs a r ≡ got c n → otherSort (tagSort (c .tag)) ≡ true
     → withBeside (ownContent c) [] (r .args) ≡ c
 answer-beside (rests.Got next) r c n e o =
     let p : recordOf r ≡ c = cc in
-    subst (λ (d : Content Part). otherTag (d .tag) ≡ true → withBeside (ownContent d) [] (r .args) ≡ d) p (record-beside r) o
+    subst (λ (d : Content Part). otherSort (tagSort (d .tag)) ≡ true → withBeside (ownContent d) [] (r .args) ≡ d) p (record-beside r) o
 answer-beside rests.RunsOut r c n e o = not-out e
 answer-beside (rests.Refused q) r c n e o = not-refused e
 
@@ -195,22 +216,6 @@ answer-kept (rests.Got next) r c n e t =
 answer-kept rests.RunsOut r c n e t = not-out e
 answer-kept (rests.Refused q) r c n e t = not-refused e
 
--- the code's answer is of the record's tag
-said-kept : (a : Answer) (xs : Args) (c : Content Part) (n : ℕ) → isRecord a ≡ true → saidIs a ≡ gives (other (ownContent c)) n
-    → tagArgs (c .tag) xs ≡ xs → answerArgs a xs ≡ xs
-said-kept (answers.Event (events.TickStart t) used) xs c n h e b = no-other h
-said-kept (answers.Event (events.TickEnd t) used) xs c n h e b = no-other h
-said-kept (answers.Event (events.PlayerNew k x y) used) xs c n h e b = no-other h
-said-kept (answers.Event (events.PlayerChange k x y old-x old-y) used) xs c n h e b = no-other h
-said-kept (answers.Event (events.PlayerOld k x y) used) xs c n h e b = no-other h
-said-kept (answers.Event (events.Input k former) used) xs c n h e b = no-other h
-said-kept (answers.Event (events.Record i) used) xs c n h e b =
-    let p : itemOf i ≡ ownContent c = cc in
-    subst (λ (d : Content Part). tagArgs (d .tag) xs ≡ xs) (sym p) b
-said-kept answers.More xs c n h e b = no-other h
-said-kept (answers.Finish used) xs c n h e b = no-other h
-said-kept (answers.Refused r) xs c n h e b = no-other h
-
 -- ---- where the kind was read
 
 module _ (a : Answer) (s : Scalars) (w : List ℕ) (h : isRecord a ≡ true) (r : KindRead) (k : kindIs r ≡ nextKind (s .version) (s .pending) w)
@@ -223,7 +228,7 @@ module _ (a : Answer) (s : Scalars) (w : List ℕ) (h : isRecord a ≡ true) (r 
     from-rest : (xs : Args) (m : Memory) (last : Bool) (kind : Kind) (n : ℕ) → saidIs a ≡ slimSaid (openCall s m w last .said)
         → (f : FromRest kind w n (openCall s m w last .said)) → withBeside (ownContent (f .content)) [] xs ≡ f .content
         → saidWith a xs ≡ openCall s m w last .said
-    from-rest xs m last kind n q f b = said-record a xs (f .content) (f .used) h (q ∙ ap slimSaid (f .said)) b ∙ sym (f .said)
+    from-rest xs m last kind n q f b = said-record xs (f .content) (f .used) a (recorded a h) (q ∙ ap slimSaid (f .said)) b ∙ sym (f .said)
 
     pub args-plain : (kind : Kind) (n : ℕ) → r ≡ reads.Got kind n → isCommand kind ≡ false → ArgsFor a s w noArgs
     args-plain kind n e p =
@@ -243,7 +248,7 @@ module _ (a : Answer) (s : Scalars) (w : List ℕ) (h : isRecord a ≡ true) (r 
               (answer-beside (x .answer) (x .value) (f .content) (f .used) (t .values ∙ f .read) (f .tag));
           tidy = λ m last q.
               let f = given (reads.Got kind n) e m last q in
-              said-kept a (x .value .args) (f .content) (f .used) h (q ∙ ap slimSaid (f .said))
+              said-kept (x .value .args) (f .content) (f .used) a (recorded a h) (q ∙ ap slimSaid (f .said))
               (answer-kept (x .answer) (x .value) (f .content) (f .used) (t .values ∙ f .read) (ap (λ (v : Record). v .args) (t .tidy)));
         }
 

@@ -1,5 +1,5 @@
 pub mod Whole
 pub mod Records
 pub mod Arguments
-pub mod Lookups
+pub mod Wide
 pub mod Calls

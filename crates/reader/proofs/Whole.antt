@@ -22,8 +22,8 @@ use Rattle.kinds.specs.declared.Kind.the-variants as kinds
 use Rattle.item.specs.declared.Tag.{Tag}
 use Rattle.item.specs.declared.Tag.the-variants.{Plain, Named, Other}
 use Rattle.item.specs.Contents.{ownContent}
-use Rattle.step.specs.Kinds.{isOther}
-use Rattle.step.proofs.Others.{no-other, by-other}
+use Rattle.rests.specs.Kinds.{isOther}
+use Rattle.rests.proofs.Others.{no-other, by-other}
 use Rattle.kinds.specs.Kinds.{isCommand}
 
 -- ---- as many values as fields

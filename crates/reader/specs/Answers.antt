@@ -1,42 +1,41 @@
 -- What the calls on a reader by value hand back, as the definitions say it.
 use Prim.Native.Nat.{ℕ}
 use mathlib.Core.Path.{_≡_}
-use mathlib.Core.Bool.{Bool, true, false, cond}
+use mathlib.Core.Bool.{Bool, cond}
 use mathlib.Core.List.{List, []}
-use lib.IntN.{ℤ, pos, negsuc}
-use Rattle.fields.specs.Views.{zeros}
+use lib.ListN.{take}
+use Rattle.fields.specs.Views.{argsWith}
 use Rattle.fields.specs.declared.Args.{Args}
 use Rattle.item.specs.Said.{Said, gives, more, finish, refusing}
-use Rattle.kinds.specs.Kinds.{kindRow}
-use Rattle.item.specs.Contents.{itemOf, withBeside, argsIn, noArgs}
+use Rattle.item.specs.Contents.{itemOf, withBeside, noArgs}
+use Rattle.item.specs.declared.Item.{Item}
+use Rattle.kinds.specs.Kinds.{isCommand}
 use Rattle.kinds.specs.declared.Kind.{Kind}
 use Rattle.item.specs.declared.Tag.{Tag}
 use Rattle.item.specs.declared.Tag.the-variants.{Plain, Named, Other}
-use Rattle.state.specs.State.{Memory, present, xOf, yOf, holds, tenOf, readerWith}
-use Rattle.state.specs.Reading.{Event, other, Step, openCall, readCall, readerAfter}
-use Rattle.state.specs.Views.{eventIs, saidIs, slimSaid}
-use Rattle.state.specs.declared.Scalars.{Scalars}
-use Rattle.state.specs.declared.Entries.{Entries}
+use Rattle.state.specs.Reading.{Event, other, Step, readCall, readerAfter}
+use Rattle.state.specs.Views.{eventIs}
 use Rattle.state.specs.declared.Reader.{Reader}
 use Rattle.state.specs.declared.Event as code
 use Rattle.state.specs.declared.Event.the-variants as events
 use Rattle.state.specs.declared.Answer.{Answer}
 use Rattle.state.specs.declared.Answer.the-variants as answers
 use Rattle.reader.specs.declared.ReadAnswer.{ReadAnswer}
-use Rattle.reader.specs.declared.Pos.{Pos}
-use Rattle.reader.specs.declared.Pos.the-variants as places
-use Rattle.reader.specs.declared.InputOf.{InputOf}
 
 -- ---- a reading call: an event with the arguments that stand beside a command
 
+-- by a record, or by any other event
+abbrev pub onRecord : {A : Type 0} → code.Event → A → (Item → A) → A
+onRecord (events.TickStart t) x f = x
+onRecord (events.TickEnd t) x f = x
+onRecord (events.PlayerNew c px py) x f = x
+onRecord (events.PlayerChange c px py old-x old-y) x f = x
+onRecord (events.PlayerOld c px py) x f = x
+onRecord (events.Input c former) x f = x
+onRecord (events.Record i) x f = f i
+
 abbrev pub eventWith : code.Event → Args → Event
-eventWith (events.TickStart t) xs = eventIs (events.TickStart t)
-eventWith (events.TickEnd t) xs = eventIs (events.TickEnd t)
-eventWith (events.PlayerNew c x y) xs = eventIs (events.PlayerNew c x y)
-eventWith (events.PlayerChange c x y old-x old-y) xs = eventIs (events.PlayerChange c x y old-x old-y)
-eventWith (events.PlayerOld c x y) xs = eventIs (events.PlayerOld c x y)
-eventWith (events.Input c former) xs = eventIs (events.Input c former)
-eventWith (events.Record i) xs = other (withBeside (itemOf i) [] xs)
+eventWith e xs = onRecord e (eventIs e) (λ i. other (withBeside (itemOf i) [] xs))
 
 abbrev pub saidWith : Answer → Args → Said Event
 saidWith (answers.Event e used) xs = gives (eventWith e xs) used
@@ -46,7 +45,7 @@ saidWith (answers.Refused r) xs = refusing r
 
 -- arguments stand beside a command alone, as many parts as the count says, the others empty; elsewhere there are none
 abbrev pub kindArgs : Kind → Args → Args
-kindArgs k xs = argsIn (kindRow k .beside) xs
+kindArgs k xs = cond (isCommand k) (argsWith (take (xs .count) (xs .parts))) noArgs
 
 abbrev pub tagArgs : Tag → Args → Args
 tagArgs (Plain k) xs = kindArgs k xs
@@ -54,38 +53,13 @@ tagArgs (Named k) xs = noArgs
 tagArgs Other xs = noArgs
 
 abbrev pub eventArgs : code.Event → Args → Args
-eventArgs (events.TickStart t) xs = noArgs
-eventArgs (events.TickEnd t) xs = noArgs
-eventArgs (events.PlayerNew c x y) xs = noArgs
-eventArgs (events.PlayerChange c x y old-x old-y) xs = noArgs
-eventArgs (events.PlayerOld c x y) xs = noArgs
-eventArgs (events.Input c former) xs = noArgs
-eventArgs (events.Record i) xs = tagArgs (itemOf i .tag) xs
+eventArgs e xs = onRecord e noArgs (λ i. tagArgs (itemOf i .tag) xs)
 
 abbrev pub answerArgs : Answer → Args → Args
 answerArgs (answers.Event e used) xs = eventArgs e xs
 answerArgs answers.More xs = noArgs
 answerArgs (answers.Finish used) xs = noArgs
 answerArgs (answers.Refused r) xs = noArgs
-
-abbrev pub recordEvent : code.Event → Bool
-recordEvent (events.TickStart t) = false
-recordEvent (events.TickEnd t) = false
-recordEvent (events.PlayerNew c x y) = false
-recordEvent (events.PlayerChange c x y old-x old-y) = false
-recordEvent (events.PlayerOld c x y) = false
-recordEvent (events.Input c former) = false
-recordEvent (events.Record i) = true
-
-abbrev pub isRecord : Answer → Bool
-isRecord (answers.Event e used) = recordEvent e
-isRecord answers.More = false
-isRecord (answers.Finish used) = false
-isRecord (answers.Refused r) = false
-
-abbrev pub readAnswer : Answer → Scalars → Entries → List ℤ → List ℤ → Args → ReadAnswer
-readAnswer a s e zs former xs =
-    record { answer = a; reader = readerWith s e; input = zs; former = former; args = xs }
 
 -- what a call says, the reader that it leaves, the ten numbers and the former ten, and no arguments but a command's
 pub record Tells (t : Step) (r : ReadAnswer) : Type 0 where
@@ -97,25 +71,3 @@ pub record Tells (t : Step) (r : ReadAnswer) : Type 0 where
 
 abbrev pub ReadIs : Reader → List ℕ → Bool → ReadAnswer → Type 0
 ReadIs reader w last r = Tells (readCall reader w last) r
-
--- ---- the arguments, which are read again
-
--- where a call's answer is a without arguments, they are those that it lacks
-pub record ArgsFor (a : Answer) (s : Scalars) (w : List ℕ) (xs : Args) : Type 0 where
-  pub said :
-      (m : Memory) (last : Bool) → saidIs a ≡ slimSaid (openCall s m w last .said) → saidWith a xs ≡ openCall s m w last .said
-  pub tidy : (m : Memory) (last : Bool) → saidIs a ≡ slimSaid (openCall s m w last .said) → answerArgs a xs ≡ xs
-
--- ---- lookups
-
-abbrev pub posOf : Entries → ℤ → Pos
-posOf e (pos c) = cond (present e c) (places.At (xOf e c) (yOf e c)) places.NoPos
-posOf e (negsuc c) = places.NoPos
-
-abbrev pub inputAnswer : Bool → List ℤ → InputOf
-inputAnswer there zs = record { there = there; input = zs }
-
--- ten zeros where there is none
-abbrev pub inputFor : Entries → ℤ → InputOf
-inputFor e (pos c) = cond (holds e c) (inputAnswer true (tenOf (e .inputs) c)) (inputAnswer false (zeros 10))
-inputFor e (negsuc c) = inputAnswer false (zeros 10)

@@ -1,20 +1,22 @@
 // The reader by value (raw.rs, Reader): the empty one, the reading call, lookups. The work is done by step::open_call on lent entries.
 ghost use mathlib.Core.Path.{_≡_};
-ghost use mathlib.Core.Bool.{false};
 ghost use lib.IntN.{pos, _+ℤ_};
-ghost use Rattle.fields.specs.Views.{zeros};
 ghost use Rattle.item.specs.Said.{refusing};
 ghost use Rattle.item.specs.Contents.{noArgs};
 ghost use Rattle.state.specs.State.{entriesWith, goodReader};
 ghost use Rattle.state.specs.Reading.{step, openCall, memoryOf};
-ghost use Rattle.reader.specs.Answers.{recordEvent, isRecord, ArgsFor, readAnswer, Tells, ReadIs, posOf, inputAnswer, inputFor};
+ghost use Rattle.reader.specs.Answers.{Tells, ReadIs};
 ghost use Rattle.kinds.specs.Kinds.{isCommand};
+ghost use Rattle.reader.specs.Inside.{recordEvent, isRecord, ArgsFor, readAnswer};
+ghost use Rattle.lookups.specs.Lookups.{posOf, inputFor};
 ghost use Rattle.reader.specs.Wanted.{WantedIs};
 use fields::Args;
 use kinds::Kind;
 use kinds::KindRead;
 use kinds::Version;
 use kinds::VersionOf;
+use lookups::InputOf;
+use lookups::Pos;
 use packer::Part;
 use refusal::Refusal;
 use state::Answer;
@@ -43,18 +45,6 @@ pub enum WantedAnswer {
 pub struct WantedReader {
     pub answer: WantedAnswer,
     pub reader: Reader,
-}
-
-// A position, or none.
-pub enum Pos {
-    At { x: i32, y: i32 },
-    NoPos,
-}
-
-// Ten numbers, if there are any.
-pub struct InputOf {
-    pub there: bool,
-    pub input: [i32; 10],
 }
 
 // An empty reader in a version, or refusal 2.
@@ -297,18 +287,7 @@ pub fn player_pos(reader: Reader, cid: i32) -> Pos
     ensures { λ r. ⌜ r ≡ posOf (reader .entries) cid ⌝ }
 {
     let entries = reader.entries;
-    let bits = num::bits(cid);
-    if 128 <= bits {
-        return Pos::NoPos;
-    }
-    let i = bits as usize;
-    if entries.marks[i] != 1 {
-        return Pos::NoPos;
-    }
-    Pos::At {
-        x: entries.xs[i],
-        y: entries.ys[i],
-    }
+    lookups::player_pos(entries, cid)
 }
 
 // The ten input numbers of a client, or none.
@@ -316,28 +295,7 @@ pub fn input(reader: Reader, cid: i32) -> InputOf
     ensures { λ r. ⌜ r ≡ inputFor (reader .entries) cid ⌝ }
 {
     let entries = reader.entries;
-    let bits = num::bits(cid);
-    if 128 <= bits {
-        return no_input();
-    }
-    let i = bits as usize;
-    if entries.held[i] != 1 {
-        return no_input();
-    }
-    let inputs = entries.inputs;
-    InputOf {
-        there: true,
-        input: inputs::ten_at(&inputs, i),
-    }
-}
-
-fn no_input() -> InputOf
-    ensures { λ r. ⌜ r ≡ inputAnswer false (zeros 10) ⌝ }
-{
-    InputOf {
-        there: false,
-        input: [0; 10],
-    }
+    lookups::input(entries, cid)
 }
 
 // The end of the range of clients seen, from 0: the largest client + 1, which may be 2147483648.

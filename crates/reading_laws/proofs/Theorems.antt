@@ -24,9 +24,7 @@ use Rattle.state.proofs.Acts.{read-acts}
 use Rattle.state.proofs.ByActs.{calls-by-acts}
 use Rattle.reader.specs.Answers.{saidWith}
 use Rattle.reader.specs.declared.ReadAnswer.{ReadAnswer}
-use Rattle.back.specs.Back.{takeOff, stepBack}
-use Rattle.back.specs.declared.BoardTick.{BoardTick}
-use Rattle.back.specs.declared.BoardTick.the-variants.{In, NoTick}
+use Rattle.back.specs.Back.{undoOf, stepBack}
 use Rattle.reading_laws.specs.Causes.{Open, Cause, WantsMore}
 use Rattle.reading_laws.specs.Causes as cause
 use Rattle.reading_laws.specs.Laws.{RefusalsHaveCauses, MoreIsWanted, ReadDetermined, BackWithoutArguments}
@@ -160,16 +158,15 @@ read-determined r w last a b ha hb =
 
 -- ---- stepping back
 
-off-slim : (e : Event) (ten former : List ℤ) (t : BoardTick) (x : Entries) → takeOff e ten former t x ≡ takeOff (slim e) ten former t x
-off-slim (tickStart u) ten former t x = refl
-off-slim (tickEnd u) ten former t x = refl
-off-slim (playerNew c a b) ten former t x = refl
-off-slim (playerChange c a b old-x old-y) ten former t x = refl
-off-slim (playerOld c a b) ten former t x = refl
-off-slim (input c had) ten former t x = refl
-off-slim (other r) ten former NoTick x = refl
-off-slim (other r) ten former (In t) x = refl
+undo-slim : (e : Event) (ten former : List ℤ) → undoOf e ten former ≡ undoOf (slim e) ten former
+undo-slim (tickStart u) ten former = refl
+undo-slim (tickEnd u) ten former = refl
+undo-slim (playerNew c a b) ten former = refl
+undo-slim (playerChange c a b old-x old-y) ten former = refl
+undo-slim (playerOld c a b) ten former = refl
+undo-slim (input c had) ten former = refl
+undo-slim (other r) ten former = refl
 
 pub back-without-arguments : BackWithoutArguments
 unfolding stepBack
-back-without-arguments b e ten former = rw (off-slim e ten former (b .tick) (b .entries))
+back-without-arguments b e ten former = rw (undo-slim e ten former)

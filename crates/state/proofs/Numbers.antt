@@ -9,6 +9,7 @@ use mir.Syntax.{w32}
 use mir.Val.{SFits, toZ, ofZ}
 use mir.Facts.{toZ-ofZ}
 use Rattle.num.specs.Wrap.{wrap32}
+use Rattle.state.specs.declared.Scalars.{Scalars}
 
 pub picks-first : {A : Type 0} (b : Bool) (x y : A) → b ≡ true → x ≡ cond b x y
 picks-first b x y e = rw e
@@ -19,6 +20,17 @@ picks-second b x y e = rw e
 -- a number read back from its bits
 pub back : (z : ℤ) → SFits w32 z → toZ w32 (ofZ w32 z) ≡ z
 back z f = toZ-ofZ {w = w32} {z = z} f
+
+-- three of them
+pub record Three (x y z : ℤ) : Type 0 where
+  pub first : toZ w32 (ofZ w32 x) ≡ x
+  pub second : toZ w32 (ofZ w32 y) ≡ y
+  pub third : toZ w32 (ofZ w32 z) ≡ z
+
+-- those of scalars
+pub record Kept (s : Scalars) : Type 0 where
+  pub tick : toZ w32 (ofZ w32 (s .tick)) ≡ s .tick
+  pub largest : toZ w32 (ofZ w32 (s .largest)) ≡ s .largest
 
 -- the bits that `num::bits` gives
 pub bits-are : (z : ℤ) (b : ℕ) → SFits w32 z → b ≡ ofZ w32 (toZ w32 (ofZ w32 z)) → b ≡ ofZ w32 z

@@ -1,4 +1,4 @@
--- Where kinds and records that were read end: within the window. Of which kind a record is. Assumes nothing.
+-- Where kinds and records that were read end: within the window. Of which sort a record is. Assumes nothing.
 use Prim.Native.Nat.{ℕ, zero, suc, _≤_, zero-le}
 use mathlib.Core.Path.{_≡_, refl}
 use mathlib.Core.Bool.{true}
@@ -13,7 +13,7 @@ use Rattle.packer.specs.Parts.{shown, readRaw, readData}
 use Rattle.packer.specs.declared.Part.{Part}
 use Rattle.packer.specs.declared.PartRead.{PartRead}
 use Rattle.packer.specs.declared.PartRead.the-variants as parts
-use Rattle.packer.proofs.Parts.{raw-taken, data-taken}
+use Rattle.packer.proofs.Parts.{data-taken}
 use Rattle.fields.specs.Fields.{Field, Value, Reading, got, runsOut, refused, readFields}
 use Rattle.fields.proofs.AllTaken.{fields-taken}
 use Rattle.kinds.specs.Kinds.{withClient, extension, kindOf, afterNumber, readKind}
@@ -41,8 +41,8 @@ use Rattle.kinds.specs.declared.Version.{Version}
 use Rattle.kinds.specs.declared.Version.the-variants.{V1, V2}
 use Rattle.kinds.specs.declared.Kind.{Kind}
 use Rattle.kinds.specs.declared.Kind.the-variants as kinds
-use Rattle.item.specs.declared.Tag.{Tag}
-use Rattle.item.specs.declared.Tag.the-variants.{Plain, Named, Other}
+use Rattle.item.specs.declared.Tag.the-variants.{Plain, Named}
+use Rattle.state.specs.Sorts.{sortOf, tagSort}
 use Rattle.state.specs.State.{goodKind, goodPending}
 use Rattle.state.specs.Reading.{nextKind}
 use Rattle.state.specs.declared.Pending.{Pending}
@@ -102,70 +102,102 @@ next-told v (Is k) w = (zero-le, λ g. g)
 
 -- ---- records
 
-abbrev pub ofKind : Kind → Tag → Type 0
-ofKind k (Plain j) = j ≡ k
-ofKind k (Named i) = k ≡ kinds.Ex
-ofKind k Other = k ≡ kinds.Ex
-
-abbrev pub restTold : Kind → ℕ → Reading (Content Part) → Type 0
-restTold k l (got c n) = (n ≤ l) × ofKind k (c .tag)
-restTold k l runsOut = Unit
-restTold k l (refused r) = Unit
+-- a record is of its kind's sort
+abbrev pub RestSort : Kind → Reading (Content Part) → Type 0
+RestSort k (got c n) = tagSort (c .tag) ≡ sortOf k
+RestSort k runsOut = Unit
+RestSort k (refused r) = Unit
 
 abbrev isPlain : Rest → Type 0
 isPlain (fields fs gs) = Unit
 isPlain records.extension = ⊥
 
+fields-sort : (k : Kind) (x : Reading (List (Value Part))) → RestSort k (asContent (Plain k) x)
+fields-sort k (got vs next) = refl
+fields-sort k runsOut = tt
+fields-sort k (refused r) = tt
+
+upto-sort : (k : Extension) (next : ℕ) (x : Reading (List (Value Part))) → RestSort kinds.Ex (upTo next (asContent (Named k) x))
+upto-sort k next (got vs n) = refl
+upto-sort k next runsOut = tt
+upto-sort k next (refused r) = tt
+
+payload-sort : (w : List ℕ) (p : Part) (k : Extension) (y : Payload) (next : ℕ) → RestSort kinds.Ex (ofPayload w p k y next)
+payload-sort w p k (shaped fs) next = upto-sort k next (readFields fs (take next w) (p .at))
+payload-sort w p k whole next = refl
+
+found-sort : (w : List ℕ) (id p : Part) (f : Found) (next : ℕ) → RestSort kinds.Ex (ofFound w id p f next)
+found-sort w id p (Known k) next = payload-sort w p k (payloadAt k) next
+found-sort w id p Unknown next = refl
+
+data-sort : (w : List ℕ) (id : Part) (x : PartRead) → RestSort kinds.Ex (afterData w id x)
+data-sort w id (parts.Got p next) = found-sort w id p (find (shown w id)) next
+data-sort w id parts.RunsOut = tt
+
+id-sort : (w : List ℕ) (x : PartRead) → RestSort kinds.Ex (afterId w x)
+id-sort w (parts.Got id next) = data-sort w id (readData w next)
+id-sort w parts.RunsOut = tt
+
+as-sort : (k : Kind) (r : Rest) → isPlain r → (w : List ℕ) (at : ℕ) → RestSort k (readAs w k r at)
+as-sort k (fields fs gs) p w at = fields-sort k (readFields (fs ++ gs) w at)
+as-sort k records.extension p w at = absurd p
+
+plain-sort : (k : Kind) → isPlain (restOf k) → (w : List ℕ) (at : ℕ) → RestSort k (readAs w k (restOf k) at)
+plain-sort k p w at = as-sort k (restOf k) p w at
+
+pub rest-sort : (k : Kind) (w : List ℕ) (at : ℕ) → RestSort k (readRest k w at)
+unfolding readRest readEx
+rest-sort (kinds.PlayerDiff c) w at = plain-sort (kinds.PlayerDiff c) tt w at
+rest-sort kinds.Finish w at = plain-sort kinds.Finish tt w at
+rest-sort kinds.TickSkip w at = plain-sort kinds.TickSkip tt w at
+rest-sort (kinds.PlayerNew c) w at = plain-sort (kinds.PlayerNew c) tt w at
+rest-sort (kinds.PlayerOld c) w at = plain-sort (kinds.PlayerOld c) tt w at
+rest-sort kinds.InputDiff w at = plain-sort kinds.InputDiff tt w at
+rest-sort kinds.InputNew w at = plain-sort kinds.InputNew tt w at
+rest-sort kinds.Message w at = plain-sort kinds.Message tt w at
+rest-sort kinds.Join w at = plain-sort kinds.Join tt w at
+rest-sort kinds.Drop w at = plain-sort kinds.Drop tt w at
+rest-sort kinds.ConsoleCommand w at = plain-sort kinds.ConsoleCommand tt w at
+rest-sort kinds.Ex w at = id-sort w (readRaw 16 w at)
+
+-- and ends in the window
+abbrev pub RestIn : ℕ → Reading (Content Part) → Type 0
+RestIn l (got c n) = n ≤ l
+RestIn l runsOut = Unit
+RestIn l (refused r) = Unit
+
 module _ (w : List ℕ) (at : ℕ) (h : at ≤ length w) where
-  fields-told : (k : Kind) (fs : List Field) (x : Reading (List (Value Part))) → readFields fs w at ≡ x → restTold k (length w) (asContent (Plain k) x)
-  fields-told k fs (got vs next) e = (fields-taken fs w at h vs next e .within, refl)
-  fields-told k fs runsOut e = tt
-  fields-told k fs (refused r) e = tt
+  fields-in : (k : Kind) (fs : List Field) (x : Reading (List (Value Part))) → readFields fs w at ≡ x → RestIn (length w) (asContent (Plain k) x)
+  fields-in k fs (got vs next) e = fields-taken fs w at h vs next e .within
+  fields-in k fs runsOut e = tt
+  fields-in k fs (refused r) e = tt
 
-  as-told : (k : Kind) (r : Rest) → isPlain r → restTold k (length w) (readAs w k r at)
-  as-told k (fields fs gs) p = fields-told k (fs ++ gs) (readFields (fs ++ gs) w at) refl
-  as-told k records.extension p = absurd p
+upto-in : (l : ℕ) (k : Extension) (next : ℕ) (x : Reading (List (Value Part))) → next ≤ l → RestIn l (upTo next (asContent (Named k) x))
+upto-in l k next (got vs n) h = h
+upto-in l k next runsOut h = tt
+upto-in l k next (refused r) h = tt
 
-  plain-told : (k : Kind) → isPlain (restOf k) → restTold k (length w) (readAs w k (restOf k) at)
-  plain-told k p = as-told k (restOf k) p
+payload-in : (w : List ℕ) (p : Part) (k : Extension) (y : Payload) (next : ℕ) → next ≤ length w → RestIn (length w) (ofPayload w p k y next)
+payload-in w p k (shaped fs) next h = upto-in (length w) k next (readFields fs (take next w) (p .at)) h
+payload-in w p k whole next h = h
 
-  upto-told : (k : Extension) (next : ℕ) (x : Reading (List (Value Part))) → next ≤ length w
-      → restTold kinds.Ex (length w) (upTo next (asContent (Named k) x))
-  upto-told k next (got vs n) l = (l, refl)
-  upto-told k next runsOut l = tt
-  upto-told k next (refused r) l = tt
+found-in : (w : List ℕ) (id p : Part) (f : Found) (next : ℕ) → next ≤ length w → RestIn (length w) (ofFound w id p f next)
+found-in w id p (Known k) next h = payload-in w p k (payloadAt k) next h
+found-in w id p Unknown next h = h
 
-  payload-told : (p : Part) (k : Extension) (y : Payload) (next : ℕ) → next ≤ length w → restTold kinds.Ex (length w) (ofPayload w p k y next)
-  payload-told p k (shaped fs) next l = upto-told k next (readFields fs (take next w) (p .at)) l
-  payload-told p k whole next l = (l, refl)
+data-in : (w : List ℕ) (at : ℕ) (id : Part) (x : PartRead) → readData w at ≡ x → RestIn (length w) (afterData w id x)
+data-in w at id (parts.Got p next) e = found-in w id p (find (shown w id)) next (data-taken w at next p e .within)
+data-in w at id parts.RunsOut e = tt
 
-  found-told : (id p : Part) (f : Found) (next : ℕ) → next ≤ length w → restTold kinds.Ex (length w) (ofFound w id p f next)
-  found-told id p (Known k) next l = payload-told p k (payloadAt k) next l
-  found-told id p Unknown next l = (l, refl)
+id-in : (w : List ℕ) (at : ℕ) (x : PartRead) → readRaw 16 w at ≡ x → RestIn (length w) (afterId w x)
+id-in w at (parts.Got id next) e = data-in w next id (readData w next) refl
+id-in w at parts.RunsOut e = tt
 
-data-told : (w : List ℕ) (at : ℕ) (id : Part) (x : PartRead) → at ≤ length w → readData w at ≡ x → restTold kinds.Ex (length w) (afterData w id x)
-data-told w at id (parts.Got p next) h e = found-told w at h id p (find (shown w id)) next (data-taken w at next p e .within)
-data-told w at id parts.RunsOut h e = tt
-
-id-told : (w : List ℕ) (at : ℕ) (x : PartRead) → readRaw 16 w at ≡ x → restTold kinds.Ex (length w) (afterId w x)
-id-told w at (parts.Got id next) e = data-told w next id (readData w next) (raw-taken 16 w at next id e .within) refl
-id-told w at parts.RunsOut e = tt
-
-ex-told : (w : List ℕ) (at : ℕ) → restTold kinds.Ex (length w) (readEx w at)
+as-in : (k : Kind) (r : Rest) (w : List ℕ) (at : ℕ) → at ≤ length w → RestIn (length w) (readAs w k r at)
 unfolding readEx
-ex-told w at = id-told w at (readRaw 16 w at) refl
+as-in k (fields fs gs) w at h = fields-in w at h k (fs ++ gs) (readFields (fs ++ gs) w at) refl
+as-in k records.extension w at h = id-in w at (readRaw 16 w at) refl
 
-pub rest-told : (k : Kind) (w : List ℕ) (at : ℕ) → at ≤ length w → restTold k (length w) (readRest k w at)
+pub rest-in : (k : Kind) (w : List ℕ) (at : ℕ) → at ≤ length w → RestIn (length w) (readRest k w at)
 unfolding readRest
-rest-told (kinds.PlayerDiff c) w at h = plain-told w at h (kinds.PlayerDiff c) tt
-rest-told kinds.Finish w at h = plain-told w at h kinds.Finish tt
-rest-told kinds.TickSkip w at h = plain-told w at h kinds.TickSkip tt
-rest-told (kinds.PlayerNew c) w at h = plain-told w at h (kinds.PlayerNew c) tt
-rest-told (kinds.PlayerOld c) w at h = plain-told w at h (kinds.PlayerOld c) tt
-rest-told kinds.InputDiff w at h = plain-told w at h kinds.InputDiff tt
-rest-told kinds.InputNew w at h = plain-told w at h kinds.InputNew tt
-rest-told kinds.Message w at h = plain-told w at h kinds.Message tt
-rest-told kinds.Join w at h = plain-told w at h kinds.Join tt
-rest-told kinds.Drop w at h = plain-told w at h kinds.Drop tt
-rest-told kinds.ConsoleCommand w at h = plain-told w at h kinds.ConsoleCommand tt
-rest-told kinds.Ex w at h = ex-told w at
+rest-in k w at h = as-in k (restOf k) w at h

@@ -1,5 +1,5 @@
--- The acts of a reading call: all that a call on an open reader may do. Each has what holds before it, what it says and what it leaves.
--- That every call is one of them is proved once (proofs/Acts.antt); a law of calls is then a clause for each act. docs/FORMAT.md, "Ticks
+-- Laws: the acts of a reading call, all that a call on an open reader may do. Each has what holds before it, what it says and what it
+-- leaves. That every call is one of them is proved once (proofs/Acts.antt); a law of calls is then a clause for each act. docs/FORMAT.md, "Ticks
 -- and the board" and "What a call may say".
 use Prim.Native.Nat.{ℕ}
 use mathlib.Core.Path.{_≡_}
@@ -31,6 +31,8 @@ use Rattle.item.specs.Contents.{cidOf}
 use Rattle.kinds.specs.declared.Kind.{Kind}
 use Rattle.kinds.specs.declared.Kind.the-variants as kinds
 use Rattle.kinds.specs.declared.Cid.the-variants.{Of, NoCid}
+use Rattle.state.specs.Sorts.{Change, Sort, sortOf}
+use Rattle.state.specs.Sorts as sorts
 use Rattle.state.specs.State.{Memory, withEntries, present, xOf, yOf, withPlayer, moved, holds, tenOf, withInput, goodReader}
 use Rattle.state.specs.Reading.{
   Event,
@@ -100,38 +102,30 @@ abbrev pub othersOf : Content Part → List ℤ
 othersOf r = drop 1 (numbers (r .values))
 
 -- the kind of a player record, and its client
-pub data PlayerKind : Kind → ℤ → Type 0 where
-  diffKind : {c : ℤ} → PlayerKind (kinds.PlayerDiff c) c
-  newKind : {c : ℤ} → PlayerKind (kinds.PlayerNew c) c
-  oldKind : {c : ℤ} → PlayerKind (kinds.PlayerOld c) c
+pub record PlayerKind (k : Kind) (c : ℤ) : Type 0 where
+  pub change : Change
+  pub sort : sortOf k ≡ sorts.player change c
 
 -- the kind of an input
-pub data InputKind : Kind → Type 0 where
-  diffInput : InputKind kinds.InputDiff
-  newInput : InputKind kinds.InputNew
+pub record InputKind (k : Kind) : Type 0 where
+  pub new : Bool
+  pub sort : sortOf k ≡ sorts.input new
 
 -- the kind of a record that changes no entry
-pub data OtherKind : Kind → Type 0 where
-  messageKind : OtherKind kinds.Message
-  joinKind : OtherKind kinds.Join
-  dropKind : OtherKind kinds.Drop
-  commandKind : OtherKind kinds.ConsoleCommand
-  exKind : OtherKind kinds.Ex
+pub record OtherKind (k : Kind) : Type 0 where
+  pub extension : Bool
+  pub sort : sortOf k ≡ sorts.other extension
 
--- a record of the kind comes inside a tick
+-- a record of the sort comes inside a tick
+abbrev pub sortWants : Sort → Bool
+sortWants (sorts.player p c) = true
+sortWants (sorts.input new) = true
+sortWants sorts.skip = false
+sortWants sorts.finish = false
+sortWants (sorts.other ex) = true
+
 abbrev pub wantsTick : Kind → Bool
-wantsTick (kinds.PlayerDiff c) = true
-wantsTick kinds.Finish = false
-wantsTick kinds.TickSkip = false
-wantsTick (kinds.PlayerNew c) = true
-wantsTick (kinds.PlayerOld c) = true
-wantsTick kinds.InputDiff = true
-wantsTick kinds.InputNew = true
-wantsTick kinds.Message = true
-wantsTick kinds.Join = true
-wantsTick kinds.Drop = true
-wantsTick kinds.ConsoleCommand = true
-wantsTick kinds.Ex = true
+wantsTick k = sortWants (sortOf k)
 
 -- inside a tick whose last player record, if any, was of a lower client: client c may come
 pub record MayCome (s : Scalars) (c : ℤ) : Type 0 where
@@ -139,19 +133,15 @@ pub record MayCome (s : Scalars) (c : ℤ) : Type 0 where
   pub rises : atOrBelow c (s .remembered) ≡ false
 
 -- the tick rules let a record of the kind be read
+abbrev pub SortReads : Scalars → Sort → Type 0
+SortReads s (sorts.player p c) = MayCome s c
+SortReads s (sorts.input new) = s .inside ≡ true
+SortReads s sorts.skip = Unit {0}
+SortReads s sorts.finish = s .inside ≡ false
+SortReads s (sorts.other ex) = s .inside ≡ true
+
 abbrev pub MayRead : Scalars → Kind → Type 0
-MayRead s (kinds.PlayerDiff c) = MayCome s c
-MayRead s kinds.Finish = s .inside ≡ false
-MayRead s kinds.TickSkip = Unit {0}
-MayRead s (kinds.PlayerNew c) = MayCome s c
-MayRead s (kinds.PlayerOld c) = MayCome s c
-MayRead s kinds.InputDiff = s .inside ≡ true
-MayRead s kinds.InputNew = s .inside ≡ true
-MayRead s kinds.Message = s .inside ≡ true
-MayRead s kinds.Join = s .inside ≡ true
-MayRead s kinds.Drop = s .inside ≡ true
-MayRead s kinds.ConsoleCommand = s .inside ≡ true
-MayRead s kinds.Ex = s .inside ≡ true
+MayRead s k = SortReads s (sortOf k)
 
 -- ---- why a call gives no event
 

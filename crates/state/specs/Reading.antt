@@ -29,11 +29,10 @@ use Rattle.item.specs.Records.{Content, content, readRest}
 use Rattle.item.specs.Contents.{cidOf}
 use Rattle.kinds.specs.declared.Version.{Version}
 use Rattle.kinds.specs.declared.Kind.{Kind}
-use Rattle.kinds.specs.declared.Kind.the-variants as kinds
-use Rattle.item.specs.declared.Tag.{Tag}
-use Rattle.item.specs.declared.Tag.the-variants.{Plain, Named, Other}
 use Rattle.kinds.specs.declared.Cid.{Cid}
 use Rattle.kinds.specs.declared.Cid.the-variants.{Of, NoCid}
+use Rattle.state.specs.Sorts.{Sort, sortOf, tagSort}
+use Rattle.state.specs.Sorts as sorts
 use Rattle.state.specs.State.{
   larger,
   Memory,
@@ -82,13 +81,14 @@ step a s m = record { said = a; scalars = s; memory = m }
 
 -- ---- the scalars
 
-abbrev pub scalars : Version → ℤ → Bool → Cid → ℤ → Pending → Bool → Scalars
-scalars v t i p m k c =
-    record { version = v; tick = t; inside = i; remembered = p; largest = m; pending = k; closed = c }
+-- the scalars that a call leaves; the version stays
+abbrev pub turned : Scalars → ℤ → Bool → Cid → ℤ → Pending → Bool → Scalars
+turned s t i p m k c =
+    record { version = s .version; tick = t; inside = i; remembered = p; largest = m; pending = k; closed = c }
 
 -- after a refusal or finish: closed, with nothing pending
 unfoldable pub closing : Scalars → Scalars
-closing s = scalars (s .version) (s .tick) (s .inside) (s .remembered) (s .largest) NoKind true
+closing s = turned s (s .tick) (s .inside) (s .remembered) (s .largest) NoKind true
 
 abbrev pub raisedTo : ℤ → Cid → ℤ
 raisedTo m (Of c) = larger m c
@@ -96,23 +96,25 @@ raisedTo m NoCid = m
 
 -- after a record: nothing is pending, and the largest client has risen to the record's
 unfoldable pub raising : Cid → Scalars → Scalars
-raising c s = scalars (s .version) (s .tick) (s .inside) (s .remembered) (raisedTo (s .largest) c) NoKind (s .closed)
+raising c s = turned s (s .tick) (s .inside) (s .remembered) (raisedTo (s .largest) c) NoKind (s .closed)
 
 -- after a player record of the client c, which is remembered too
 unfoldable pub naming : ℤ → Scalars → Scalars
-naming c s = scalars (s .version) (s .tick) (s .inside) (Of c) (larger (s .largest) c) NoKind (s .closed)
+naming c s = turned s (s .tick) (s .inside) (Of c) (larger (s .largest) c) NoKind (s .closed)
 
--- a tick starts, and the kind is pending
+-- at the start or the end of a tick: the kind is pending, or after a TickSkip none
+abbrev pub ticking : ℤ → Bool → Cid → Pending → Scalars → Scalars
+ticking t i p k s = turned s t i p (s .largest) k (s .closed)
+
 unfoldable pub starting : Kind → Scalars → Scalars
-starting k s = scalars (s .version) (s .tick) true (s .remembered) (s .largest) (Is k) (s .closed)
+starting k s = ticking (s .tick) true (s .remembered) (Is k) s
 
--- a tick ends, and the kind is pending: the tick and the remembered client that it leaves
 unfoldable pub ending : ℤ → Cid → Kind → Scalars → Scalars
-ending t p k s = scalars (s .version) t false p (s .largest) (Is k) (s .closed)
+ending t p k s = ticking t false p (Is k) s
 
--- after a TickSkip: the remembered client stays
+-- a TickSkip leaves the remembered client
 unfoldable pub skipping : ℤ → Bool → Scalars → Scalars
-skipping t i s = scalars (s .version) t i (s .remembered) (s .largest) NoKind (s .closed)
+skipping t i s = ticking t i (s .remembered) NoKind s
 
 unfoldable pub refusal : Refusal → Scalars → Memory → Step
 refusal r s m = step (refusing r) (closing s) m
@@ -205,28 +207,19 @@ first zs = getD zs 0 (pos 0)
 abbrev pub second : List ℤ → ℤ
 second zs = getD zs 1 (pos 0)
 
--- rules 5 to 7, by the record's kind and its numbers
-abbrev pub applyKind : Kind → Scalars → Memory → Content Part → List ℤ → ℕ → Step
-applyKind (kinds.PlayerDiff cid) s m c zs n = playerDiff (naming cid s) m cid (first zs) (second zs) n
-applyKind kinds.Finish s m c zs n = step (finish n) (closing s) m
-applyKind kinds.TickSkip s m c zs n = tickSkip s m (dtOf (first zs)) n
-applyKind (kinds.PlayerNew cid) s m c zs n = newPlayer (naming cid s) m cid (first zs) (second zs) n
-applyKind (kinds.PlayerOld cid) s m c zs n = oldPlayer (naming cid s) m cid n
-applyKind kinds.InputDiff s m c zs n = inputDiff (raising (Of (first zs)) s) m (first zs) (drop 1 zs) n
-applyKind kinds.InputNew s m c zs n = inputNew (raising (Of (first zs)) s) m (first zs) (drop 1 zs) n
-applyKind kinds.Message s m c zs n = otherRecord s m c n
-applyKind kinds.Join s m c zs n = otherRecord s m c n
-applyKind kinds.Drop s m c zs n = otherRecord s m c n
-applyKind kinds.ConsoleCommand s m c zs n = otherRecord s m c n
-applyKind kinds.Ex s m c zs n = otherRecord s m c n
-
-abbrev pub applyTag : Tag → Scalars → Memory → Content Part → ℕ → Step
-applyTag (Plain k) s m c n = applyKind k s m c (numbers (c .values)) n
-applyTag (Named k) s m c n = otherRecord s m c n
-applyTag Other s m c n = otherRecord s m c n
+-- rules 5 to 7, by the record's sort and its numbers
+abbrev pub applySort : Sort → Scalars → Memory → Content Part → List ℤ → ℕ → Step
+applySort (sorts.player sorts.moves cid) s m c zs n = playerDiff (naming cid s) m cid (first zs) (second zs) n
+applySort (sorts.player sorts.comes cid) s m c zs n = newPlayer (naming cid s) m cid (first zs) (second zs) n
+applySort (sorts.player sorts.leaves cid) s m c zs n = oldPlayer (naming cid s) m cid n
+applySort (sorts.input true) s m c zs n = inputNew (raising (Of (first zs)) s) m (first zs) (drop 1 zs) n
+applySort (sorts.input false) s m c zs n = inputDiff (raising (Of (first zs)) s) m (first zs) (drop 1 zs) n
+applySort sorts.skip s m c zs n = tickSkip s m (dtOf (first zs)) n
+applySort sorts.finish s m c zs n = step (finish n) (closing s) m
+applySort (sorts.other ex) s m c zs n = otherRecord s m c n
 
 unfoldable pub apply : Scalars → Memory → Content Part → ℕ → Step
-apply s m c n = applyTag (c .tag) s m c n
+apply s m c n = applySort (tagSort (c .tag)) s m c (numbers (c .values)) n
 
 -- ---- the tick rules (2 to 4)
 
@@ -250,19 +243,15 @@ playerRule s c = cond (s .inside) (comesAgain (s .tick) (atOrBelow c (s .remembe
 abbrev pub otherRule : Scalars → Rule
 otherRule s = cond (s .inside) Reads Starts
 
+abbrev pub sortRule : Scalars → Sort → Rule
+sortRule s (sorts.player p c) = playerRule s c
+sortRule s (sorts.input new) = otherRule s
+sortRule s sorts.skip = Reads
+sortRule s sorts.finish = cond (s .inside) EndsHere Reads
+sortRule s (sorts.other ex) = otherRule s
+
 unfoldable pub tickRule : Scalars → Kind → Rule
-tickRule s (kinds.PlayerDiff c) = playerRule s c
-tickRule s kinds.Finish = cond (s .inside) EndsHere Reads
-tickRule s kinds.TickSkip = Reads
-tickRule s (kinds.PlayerNew c) = playerRule s c
-tickRule s (kinds.PlayerOld c) = playerRule s c
-tickRule s kinds.InputDiff = otherRule s
-tickRule s kinds.InputNew = otherRule s
-tickRule s kinds.Message = otherRule s
-tickRule s kinds.Join = otherRule s
-tickRule s kinds.Drop = otherRule s
-tickRule s kinds.ConsoleCommand = otherRule s
-tickRule s kinds.Ex = otherRule s
+tickRule s k = sortRule s (sortOf k)
 
 -- ---- the call
 

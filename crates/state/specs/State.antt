@@ -10,9 +10,9 @@ use Rattle.fields.specs.Views.{zeros}
 use Rattle.kinds.specs.declared.Version.{Version}
 use Rattle.kinds.specs.declared.Version.the-variants.{V1, V2}
 use Rattle.kinds.specs.declared.Kind.{Kind}
-use Rattle.kinds.specs.declared.Kind.the-variants as kinds
-use Rattle.kinds.specs.declared.Cid.{Cid}
-use Rattle.kinds.specs.declared.Cid.the-variants.{Of, NoCid}
+use Rattle.kinds.specs.declared.Cid.the-variants.{NoCid}
+use Rattle.state.specs.Sorts.{Sort, sortOf}
+use Rattle.state.specs.Sorts as sorts
 use Rattle.state.specs.declared.Pending.{Pending}
 use Rattle.state.specs.declared.Pending.the-variants.{Is, NoKind}
 use Rattle.state.specs.declared.Entries.{Entries}
@@ -124,19 +124,17 @@ hasEx V1 = false
 hasEx V2 = true
 
 -- no pending PlayerDiff of a negative client, no pending extension in version 1
+abbrev pub goodSort : Version → Sort → Bool
+goodSort v (sorts.player sorts.moves c) = nonNeg c
+goodSort v (sorts.player sorts.comes c) = true
+goodSort v (sorts.player sorts.leaves c) = true
+goodSort v (sorts.input new) = true
+goodSort v sorts.skip = true
+goodSort v sorts.finish = true
+goodSort v (sorts.other ex) = cond ex (hasEx v) true
+
 abbrev pub goodKind : Version → Kind → Bool
-goodKind v (kinds.PlayerDiff c) = nonNeg c
-goodKind v kinds.Finish = true
-goodKind v kinds.TickSkip = true
-goodKind v (kinds.PlayerNew c) = true
-goodKind v (kinds.PlayerOld c) = true
-goodKind v kinds.InputDiff = true
-goodKind v kinds.InputNew = true
-goodKind v kinds.Message = true
-goodKind v kinds.Join = true
-goodKind v kinds.Drop = true
-goodKind v kinds.ConsoleCommand = true
-goodKind v kinds.Ex = hasEx v
+goodKind v k = goodSort v (sortOf k)
 
 abbrev pub goodPending : Version → Pending → Bool
 goodPending v NoKind = true

@@ -1,12 +1,16 @@
 // The types of the reader, and the steps of its scalars (raw.rs, Reader).
 ghost use mathlib.Core.Path.{_≡_};
 ghost use Prim.Native.Nat.{_<_};
+ghost use Rattle.item.specs.Said.{gives};
 ghost use Rattle.state.specs.State.{Memory, larger, emptyReader};
 ghost use Rattle.state.specs.Reading.{
+  step,
+  turned,
   closing,
   raisedTo,
   raising,
   naming,
+  ticking,
   starting,
   ending,
   skipping,
@@ -18,8 +22,10 @@ ghost use Rattle.state.specs.Reading.{
   otherRule,
   tickRule,
 };
-ghost use Rattle.state.specs.Views.{done};
+ghost use Rattle.state.specs.Views.{eventIs, done};
+ghost use Rattle.state.specs.Inside.{noEntry};
 use item::Item;
+use kinds::Cid;
 use kinds::Cid;
 use kinds::Kind;
 use kinds::Version;
@@ -138,21 +144,37 @@ pub enum Next {
     Past,
 }
 
+// The scalars that a call leaves; the version stays.
+fn turn(
+    s: Scalars,
+    tick: i32,
+    inside: bool,
+    remembered: Cid,
+    largest: i32,
+    pending: Pending,
+    closed: bool,
+) -> Scalars
+    ensures { λ r. ⌜ r ≡ turned s tick inside remembered largest pending closed ⌝ }
+{
+    let version = s.version;
+    Scalars {
+        version,
+        tick,
+        inside,
+        remembered,
+        largest,
+        pending,
+        closed,
+    }
+}
+
 // After a refusal or finish: closed, with nothing pending.
 pub fn closed(s: Scalars) -> Scalars
     ensures { λ r. ⌜ r ≡ closing s ⌝ }
 {
-    let version = s.version;
     let remembered = s.remembered;
-    Scalars {
-        version,
-        tick: s.tick,
-        inside: s.inside,
-        remembered,
-        largest: s.largest,
-        pending: Pending::NoKind,
-        closed: true,
-    }
+    let none = Pending::NoKind;
+    turn(s, s.tick, s.inside, remembered, s.largest, none, true)
 }
 
 pub fn refuse(s: Scalars, why: Refusal) -> Outcome
@@ -161,6 +183,26 @@ pub fn refuse(s: Scalars, why: Refusal) -> Outcome
     let scalars = closed(s);
     Outcome {
         answer: Answer::Refused(why),
+        scalars,
+    }
+}
+
+// Why a client without an entry is refused, from its bits: 8 where it is negative.
+pub fn no_entry(bits: u32, why: Refusal) -> Refusal
+    ensures { λ r. ⌜ r ≡ noEntry bits why ⌝ }
+{
+    if bits < 2147483648 {
+        return why;
+    }
+    Refusal::InvalidClientId
+}
+
+// An event, and the scalars that it leaves.
+pub fn gave(event: Event, used: usize, scalars: Scalars) -> Outcome
+    ensures { λ r. ⌜ ((m : Memory) → done r m ≡ step (gives (eventIs event) used) scalars m) ⌝ }
+{
+    Outcome {
+        answer: Answer::Event { event, used },
         scalars,
     }
 }
@@ -197,84 +239,48 @@ fn raised_to(largest: i32, cid: Cid) -> i32
 pub fn raised(s: Scalars, cid: Cid) -> Scalars
     ensures { λ r. ⌜ r ≡ raising cid s ⌝ }
 {
-    let version = s.version;
     let remembered = s.remembered;
     let largest = raised_to(s.largest, cid);
-    Scalars {
-        version,
-        tick: s.tick,
-        inside: s.inside,
-        remembered,
-        largest,
-        pending: Pending::NoKind,
-        closed: s.closed,
-    }
+    let none = Pending::NoKind;
+    turn(s, s.tick, s.inside, remembered, largest, none, s.closed)
 }
 
 // After a player record of a client.
 pub fn named(s: Scalars, cid: i32) -> Scalars
     ensures { λ r. ⌜ r ≡ naming cid s ⌝ }
 {
-    let version = s.version;
     let largest = larger_of(s.largest, cid);
-    Scalars {
-        version,
-        tick: s.tick,
-        inside: s.inside,
-        remembered: Cid::Of(cid),
-        largest,
-        pending: Pending::NoKind,
-        closed: s.closed,
-    }
+    let none = Pending::NoKind;
+    turn(s, s.tick, s.inside, Cid::Of(cid), largest, none, s.closed)
+}
+
+// At the start or the end of a tick.
+fn ticked(s: Scalars, tick: i32, inside: bool, remembered: Cid, pending: Pending) -> Scalars
+    ensures { λ r. ⌜ r ≡ ticking tick inside remembered pending s ⌝ }
+{
+    turn(s, tick, inside, remembered, s.largest, pending, s.closed)
 }
 
 // A tick starts, and the kind is pending.
 pub fn started(s: Scalars, kind: Kind) -> Scalars
     ensures { λ r. ⌜ r ≡ starting kind s ⌝ }
 {
-    let version = s.version;
     let remembered = s.remembered;
-    Scalars {
-        version,
-        tick: s.tick,
-        inside: true,
-        remembered,
-        largest: s.largest,
-        pending: Pending::Is(kind),
-        closed: s.closed,
-    }
+    ticked(s, s.tick, true, remembered, Pending::Is(kind))
 }
 
 // A tick ends, and the kind is pending.
 pub fn ended(s: Scalars, tick: i32, remembered: Cid, kind: Kind) -> Scalars
     ensures { λ r. ⌜ r ≡ ending tick remembered kind s ⌝ }
 {
-    let version = s.version;
-    Scalars {
-        version,
-        tick,
-        inside: false,
-        remembered,
-        largest: s.largest,
-        pending: Pending::Is(kind),
-        closed: s.closed,
-    }
+    ticked(s, tick, false, remembered, Pending::Is(kind))
 }
 
 fn skipped_to(s: Scalars, tick: i32, inside: bool) -> Scalars
     ensures { λ r. ⌜ r ≡ skipping tick inside s ⌝ }
 {
-    let version = s.version;
     let remembered = s.remembered;
-    Scalars {
-        version,
-        tick,
-        inside,
-        remembered,
-        largest: s.largest,
-        pending: Pending::NoKind,
-        closed: s.closed,
-    }
+    ticked(s, tick, inside, remembered, Pending::NoKind)
 }
 
 fn wide(x: u32) -> u64
@@ -305,23 +311,9 @@ pub fn tick_skip(s: Scalars, dt: u32, used: usize) -> Outcome
         return refuse(s, Refusal::TickOverflow);
     };
     if s.inside {
-        let scalars = skipped_to(s, t, false);
-        return Outcome {
-            answer: Answer::Event {
-                event: Event::TickEnd(tick),
-                used,
-            },
-            scalars,
-        };
+        return gave(Event::TickEnd(tick), used, skipped_to(s, t, false));
     }
-    let scalars = skipped_to(s, t, true);
-    Outcome {
-        answer: Answer::Event {
-            event: Event::TickStart(t),
-            used,
-        },
-        scalars,
-    }
+    gave(Event::TickStart(t), used, skipped_to(s, t, true))
 }
 
 fn player_rule(s: Scalars, cid: i32) -> Rule

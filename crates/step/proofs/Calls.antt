@@ -12,7 +12,7 @@ use Rattle.state.specs.State.{Memory}
 use Rattle.state.specs.Reading.{Step, refusal, outOf, tickRule, withRule, withKind, nextKind, openCall}
 use Rattle.state.specs.Views.{slimStep}
 use Rattle.state.specs.declared.Scalars.{Scalars}
-use Rattle.step.proofs.Slim.{slim-calm, calm-refusal, calm-out}
+use Rattle.rests.proofs.Slim.{slim-calm, calm-refusal, calm-out}
 
 module _ (s : Scalars) (m : Memory) (w : List ℕ) (last : Bool) (r : KindRead) (k : kindIs r ≡ nextKind (s .version) (s .pending) w) where
   kind-told : (x : KindRead) → r ≡ x → slimStep (withKind s m w last (kindIs x)) ≡ slimStep (openCall s m w last)

@@ -1,4 +1,2 @@
-pub mod Slim
-pub mod Rests
-pub mod Others
 pub mod Calls
+pub mod Others

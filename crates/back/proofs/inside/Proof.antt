@@ -3,7 +3,7 @@ use borrow.Author.Needs.{needs}
 use mathlib.Core.Path.{_≡_}
 use mir.Syntax.{w32}
 use mir.Val.{toZ, ofZ}
-use Rattle.state.proofs.Numbers.{back}
+use Rattle.state.proofs.Numbers.{back, Three}
 use Rattle.back.specs.Board.{board}
 use Rattle.back.specs.declared.BoardTick.the-variants.{In}
 use Rattle.back.proofs.inside.Statement.{statement}
@@ -12,7 +12,7 @@ use Rattle.back.proofs.inside.Tie as tie
 returns : tie.Need-returns
 returns c =
     let st = c .before .before .before .before in
-    let g = c .before .before .event .given in
+    let g = c .before .before .undo .given in
     let u : toZ w32 (ofZ w32 (g .0 .0)) ≡ g .0 .0 = search needs in
     rw (g .1) (rw (back (st .args .t) (st .fits .t), u) at (c .un-start .ensures))
 
@@ -24,36 +24,30 @@ returns-2 c =
 returns-3 : tie.Need-returns-3
 returns-3 c =
     let st = c .before .before .before .before in
-    let g = c .before .before .event2 .given in
-    let cid : toZ w32 (ofZ w32 (g .0 .0)) ≡ g .0 .0 = search needs in
-    let x : toZ w32 (ofZ w32 (g .0 .1 .0)) ≡ g .0 .1 .0 = search needs in
-    let y : toZ w32 (ofZ w32 (g .0 .1 .1 .0)) ≡ g .0 .1 .1 .0 = search needs in
-    rw (g .1) (rw (back (st .args .t) (st .fits .t), cid, x, y) at (c .un-present .ensures))
+    let g = c .before .before .undo2 .given in
+    let k : Three (g .0 .0) (g .0 .1 .0) (g .0 .1 .1 .0) = search needs in
+    rw (g .1) (rw (back (st .args .t) (st .fits .t), k .first, k .second, k .third) at (c .un-present .ensures))
 
 returns-4 : tie.Need-returns-4
 returns-4 c =
     let st = c .before .before .before .before in
-    let g = c .before .before .event3 .given in
-    let cid : toZ w32 (ofZ w32 (g .0 .0)) ≡ g .0 .0 = search needs in
-    let x : toZ w32 (ofZ w32 (g .0 .1 .0)) ≡ g .0 .1 .0 = search needs in
-    let y : toZ w32 (ofZ w32 (g .0 .1 .1 .0)) ≡ g .0 .1 .1 .0 = search needs in
+    let g = c .before .before .undo3 .given in
+    let k : Three (g .0 .0) (g .0 .1 .0) (g .0 .1 .1 .0) = search needs in
     let old-x : toZ w32 (ofZ w32 (g .0 .1 .1 .1 .0)) ≡ g .0 .1 .1 .1 .0 = search needs in
     let old-y : toZ w32 (ofZ w32 (g .0 .1 .1 .1 .1 .0)) ≡ g .0 .1 .1 .1 .1 .0 = search needs in
-    rw (g .1) (rw (back (st .args .t) (st .fits .t), cid, x, y, old-x, old-y) at (c .un-present2 .ensures))
+    rw (g .1) (rw (back (st .args .t) (st .fits .t), k .first, k .second, k .third, old-x, old-y) at (c .un-present2 .ensures))
 
 returns-5 : tie.Need-returns-5
 returns-5 c =
     let st = c .before .before .before .before in
-    let g = c .before .before .event4 .given in
-    let cid : toZ w32 (ofZ w32 (g .0 .0)) ≡ g .0 .0 = search needs in
-    let x : toZ w32 (ofZ w32 (g .0 .1 .0)) ≡ g .0 .1 .0 = search needs in
-    let y : toZ w32 (ofZ w32 (g .0 .1 .1 .0)) ≡ g .0 .1 .1 .0 = search needs in
-    rw (g .1) (rw (back (st .args .t) (st .fits .t), cid, x, y) at (c .un-old .ensures))
+    let g = c .before .before .undo4 .given in
+    let k : Three (g .0 .0) (g .0 .1 .0) (g .0 .1 .1 .0) = search needs in
+    rw (g .1) (rw (back (st .args .t) (st .fits .t), k .first, k .second, k .third) at (c .un-old .ensures))
 
 returns-6 : tie.Need-returns-6
 returns-6 c =
     let st = c .before .before .before .before in
-    let g = c .before .before .event5 .given in
+    let g = c .before .before .undo5 .given in
     let cid : toZ w32 (ofZ w32 (g .0 .0)) ≡ g .0 .0 = search needs in
     rw (g .1) (rw (back (st .args .t) (st .fits .t), cid) at (c .un-input .ensures))
 

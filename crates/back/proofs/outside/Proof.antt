@@ -8,7 +8,7 @@ use Rattle.back.proofs.outside.Tie as tie
 
 returns-2 : tie.Need-returns-2
 returns-2 c input former =
-    let g = c .before .before .event .given in
+    let g = c .before .before .undo .given in
     let u : toZ w32 (ofZ w32 (g .0 .0)) ≡ g .0 .0 = search needs in
     rw (g .1) (rw u at (c .un-end .ensures))
 

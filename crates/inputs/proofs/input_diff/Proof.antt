@@ -3,46 +3,40 @@ use borrow.Author.Needs.{needs}
 use mathlib.Core.Path.{_∙_}
 use Rattle.state.specs.State.{memory}
 use Rattle.state.proofs.Numbers.{back, bits-are}
-use Rattle.inputs.proofs.Cases.{diff-negative, diff-far, diff-away, diff-here}
+use Rattle.inputs.proofs.Cases.{diff-far, diff-away, diff-here}
 use Rattle.inputs.proofs.input_diff.Statement.{statement}
 use Rattle.inputs.proofs.input_diff.Tie as tie
 
 returns : tie.Need-returns
 returns c marks xs ys =
-    let st = c .before .before .before in
-    let a = st .args in
-    let m = memory marks xs ys (a .held .now) (a .inputs .now) (a .input .now) (a .former .now) in
-    let b = bits-are (a .cid) _ (st .fits .cid) (c .before .before .bits .ensures) in
-    c .refuse .ensures m ∙ diff-negative (a .s) m (a .cid) (a .ds) (a .used) _ (st .fits .cid) b (c .before .if1 .taken)
-
-returns-2 : tie.Need-returns-2
-returns-2 c marks xs ys =
     let st = c .before .before .before .before in
     let a = st .args in
     let m = memory marks xs ys (a .held .now) (a .inputs .now) (a .input .now) (a .former .now) in
     let b = bits-are (a .cid) _ (st .fits .cid) (c .before .before .before .bits .ensures) in
-    c .refuse2 .ensures m ∙ diff-far (a .s) m (a .cid) (a .ds) (a .used) _ (st .fits .cid) b (c .before .before .if1 .left) (c .before .if2 .taken)
+    rw (c .before .no-entry .ensures) at (c .refuse .ensures m)
+    ∙ diff-far (a .s) m (a .cid) (a .ds) (a .used) _ (st .fits .cid) b (c .before .before .if1 .taken)
+
+returns-2 : tie.Need-returns-2
+returns-2 c marks xs ys =
+    let st = c .before .before .before .before .before in
+    let a = st .args in
+    let m = memory marks xs ys (a .held .now) (a .inputs .now) (a .input .now) (a .former .now) in
+    let b = bits-are (a .cid) _ (st .fits .cid) (c .before .before .before .before .bits .ensures) in
+    c .refuse2 .ensures m ∙ diff-away (a .s) m (a .cid) (a .ds) (a .used) _ (st .fits .cid) b (c .before .before .before .if1 .left) (c .before .if2 .taken)
 
 returns-3 : tie.Need-returns-3
 returns-3 c marks xs ys =
-    let st = c .before .before .before .before .before .before in
+    let st = c .before .before .before .before .before .before .before .before .before .before in
     let a = st .args in
     let m = memory marks xs ys (a .held .now) (a .inputs .now) (a .input .now) (a .former .now) in
-    let b = bits-are (a .cid) _ (st .fits .cid) (c .before .before .before .before .before .bits .ensures) in
-    c .refuse3 .ensures m ∙ diff-away (a .s) m (a .cid) (a .ds) (a .used) _ (st .fits .cid) b (c .before .before .before .if2 .left) (c .before .if3 .taken)
-
-returns-4 : tie.Need-returns-4
-returns-4 c marks xs ys =
-    let st = c .before .before .before .before .before .before .before .before .before .before .before in
-    let a = st .args in
-    let m = memory marks xs ys (a .held .now) (a .inputs .now) (a .input .now) (a .former .now) in
-    let b = bits-are (a .cid) _ (st .fits .cid) (c .before .before .before .before .before .before .before .before .before .before .bits .ensures) in
-    rw (c .event .ensures, back (a .cid) (st .fits .cid), c .before .put-ten .ensures, c .before .before .before .add-ten .ensures, c .before .before .before .before .take-ten .ensures)
-    (diff-here (a .s) m (a .cid) (a .ds) (a .used) _ (st .fits .cid) b (c .before .before .before .before .before .before .before .before .if2 .left) (c .before .before .before .before .before .before .if3 .left))
+    let b = bits-are (a .cid) _ (st .fits .cid) (c .before .before .before .before .before .before .before .before .before .bits .ensures) in
+    c .gave .ensures _
+    ∙ rw (back (a .cid) (st .fits .cid), c .before .put-ten .ensures, c .before .before .before .add-ten .ensures, c .before .before .before .before .take-ten .ensures)
+    (diff-here (a .s) m (a .cid) (a .ds) (a .used) _ (st .fits .cid) b (c .before .before .before .before .before .before .before .before .if1 .left) (c .before .before .before .before .before .before .if2 .left))
 
 pub input-diff-spec : {M : Type 1} → statement M
 input-diff-spec =
     tie.close
-    (tie.spec (λ c κs. search needs) (λ c κs. search needs) returns (λ c κs. search needs) returns-2
-    (λ c. search needs) (λ c. search needs) (λ c κs. search needs) returns-3 (λ c κs. search needs)
-    (λ c κs. search needs) (λ c κs. search needs) (λ c. search needs) (λ c κs. search needs) returns-4)
+    (tie.spec (λ c κs. search needs) (λ c κs. search needs) (λ c κs. search needs) returns
+    (λ c. search needs) (λ c. search needs) (λ c κs. search needs) returns-2 (λ c κs. search needs)
+    (λ c κs. search needs) (λ c κs. search needs) (λ c. search needs) (λ c κs. search needs) returns-3)

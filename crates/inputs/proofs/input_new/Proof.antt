@@ -3,38 +3,32 @@ use borrow.Author.Needs.{needs}
 use mathlib.Core.Path.{_∙_}
 use Rattle.state.specs.State.{memory}
 use Rattle.state.proofs.Numbers.{back, bits-are}
-use Rattle.inputs.proofs.Cases.{new-negative, new-far, new-here}
+use Rattle.inputs.proofs.Cases.{new-far, new-here}
 use Rattle.inputs.proofs.input_new.Statement.{statement}
 use Rattle.inputs.proofs.input_new.Tie as tie
 
 returns : tie.Need-returns
 returns c marks xs ys =
-    let st = c .before .before .before in
-    let a = st .args in
-    let m = memory marks xs ys (a .held .now) (a .inputs .now) (a .input .now) (a .former .now) in
-    let b = bits-are (a .cid) _ (st .fits .cid) (c .before .before .bits .ensures) in
-    c .refuse .ensures m ∙ new-negative (a .s) m (a .cid) (a .ns) (a .used) _ (st .fits .cid) b (c .before .if1 .taken)
-
-returns-2 : tie.Need-returns-2
-returns-2 c marks xs ys =
     let st = c .before .before .before .before in
     let a = st .args in
     let m = memory marks xs ys (a .held .now) (a .inputs .now) (a .input .now) (a .former .now) in
     let b = bits-are (a .cid) _ (st .fits .cid) (c .before .before .before .bits .ensures) in
-    c .refuse2 .ensures m ∙ new-far (a .s) m (a .cid) (a .ns) (a .used) _ (st .fits .cid) b (c .before .before .if1 .left) (c .before .if2 .taken)
+    rw (c .before .no-entry .ensures) at (c .refuse .ensures m)
+    ∙ new-far (a .s) m (a .cid) (a .ns) (a .used) _ (st .fits .cid) b (c .before .before .if1 .taken)
 
-returns-3 : tie.Need-returns-3
-returns-3 c marks xs ys =
-    let st = c .before .before .before .before .before .before .before .before .before in
+returns-2 : tie.Need-returns-2
+returns-2 c marks xs ys =
+    let st = c .before .before .before .before .before .before .before .before in
     let a = st .args in
     let m = memory marks xs ys (a .held .now) (a .inputs .now) (a .input .now) (a .former .now) in
-    let b = bits-are (a .cid) _ (st .fits .cid) (c .before .before .before .before .before .before .before .before .bits .ensures) in
-    rw (c .event .ensures, back (a .cid) (st .fits .cid), c .before .put-ten .ensures, c .before .before .before .take-ten .ensures)
-    (new-here (a .s) m (a .cid) (a .ns) (a .used) _ (st .fits .cid) b (c .before .before .before .before .before .before .if2 .left))
+    let b = bits-are (a .cid) _ (st .fits .cid) (c .before .before .before .before .before .before .before .bits .ensures) in
+    c .gave .ensures _
+    ∙ rw (back (a .cid) (st .fits .cid), c .before .put-ten .ensures, c .before .before .before .take-ten .ensures)
+    (new-here (a .s) m (a .cid) (a .ns) (a .used) _ (st .fits .cid) b (c .before .before .before .before .before .before .if1 .left))
 
 pub input-new-spec : {M : Type 1} → statement M
 input-new-spec =
     tie.close
-    (tie.spec (λ c κs. search needs) (λ c κs. search needs) returns (λ c κs. search needs) returns-2
+    (tie.spec (λ c κs. search needs) (λ c κs. search needs) (λ c κs. search needs) returns
     (λ c. search needs) (λ c. search needs) (λ c κs. search needs) (λ c κs. search needs) (λ c. search needs)
-    (λ c κs. search needs) returns-3)
+    (λ c κs. search needs) returns-2)

@@ -29,18 +29,20 @@ returns-2 c held inputs input former =
 
 returns-3 : tie.Need-returns-3
 returns-3 c held inputs input former =
-    let st = c .before .before .before .before .before .before .before .before in
+    let st = c .before .before .before .before .before .before .before .before .before in
     let a = st .args in
     let m = memory (a .marks .now) (a .xs .now) (a .ys .now) held inputs input former in
-    let b = bits-are (a .cid) _ (st .fits .cid) (c .before .before .before .before .before .before .before .bits .ensures) in
-    let x = getD (a .xs .now) (c .before .before .before .before .before .before .before .bits .result) (pos 0) in
-    let y = getD (a .ys .now) (c .before .before .before .before .before .before .before .bits .result) (pos 0) in
-    let fx : SFits w32 x = record { sfits = c .before .before .before .old-x .given } in
-    let fy : SFits w32 y = record { sfits = c .before .before .old-y .given } in
-    let wx = added x (a .dx) _ fx (st .fits .dx) (c .before .wrapping-add .ensures .1) (c .before .wrapping-add .ensures .0) in
-    let wy = added y (a .dy) _ fy (st .fits .dy) (c .wrapping-add2 .ensures .1) (c .wrapping-add2 .ensures .0) in
-    rw (back (a .cid) (st .fits .cid), wx, wy, back x fx, back y fy)
-    (diff-here (a .s) m (a .cid) (a .dx) (a .dy) (a .used) _ (st .fits .cid) b (c .before .before .before .before .before .before .if1 .left) (c .before .before .before .before .if2 .left))
+    let i = c .before .before .before .before .before .before .before .before .bits .result in
+    let b = bits-are (a .cid) _ (st .fits .cid) (c .before .before .before .before .before .before .before .before .bits .ensures) in
+    let x = getD (a .xs .now) i (pos 0) in
+    let y = getD (a .ys .now) i (pos 0) in
+    let fx : SFits w32 x = record { sfits = c .before .before .before .before .old-x .given } in
+    let fy : SFits w32 y = record { sfits = c .before .before .before .old-y .given } in
+    let wx = added x (a .dx) _ fx (st .fits .dx) (c .before .before .wrapping-add .ensures .1) (c .before .before .wrapping-add .ensures .0) in
+    let wy = added y (a .dy) _ fy (st .fits .dy) (c .before .wrapping-add2 .ensures .1) (c .before .wrapping-add2 .ensures .0) in
+    c .gave .ensures _
+    ∙ rw (back (a .cid) (st .fits .cid), wx, wy, back x fx, back y fy)
+    (diff-here (a .s) m (a .cid) (a .dx) (a .dy) (a .used) _ (st .fits .cid) b (c .before .before .before .before .before .before .before .if1 .left) (c .before .before .before .before .before .if2 .left))
 
 pub player-diff-spec : {M : Type 1} → statement M
 player-diff-spec =
@@ -48,4 +50,4 @@ player-diff-spec =
     (tie.spec (λ c κs. search needs) (λ c κs. search needs) returns (λ c. search needs) (λ c. search needs)
     (λ c κs. search needs) returns-2 (λ c. search needs) (λ c. search needs) (λ c. search needs)
     (λ c. search needs) (λ c κs. search needs) (λ c κs. search needs) (λ c. search needs) (λ c. search needs)
-    (λ c. search needs) (λ c. search needs) returns-3)
+    (λ c. search needs) (λ c. search needs) (λ c κs. search needs) returns-3)

@@ -3,48 +3,42 @@ use borrow.Author.Needs.{needs}
 use mathlib.Core.Path.{_∙_}
 use Rattle.state.specs.State.{memory, withEntries, withPlayer}
 use Rattle.state.proofs.Numbers.{back, bits-are}
-use Rattle.players.proofs.Cases.{new-negative, new-far, new-here, new-away}
+use Rattle.players.proofs.Cases.{new-far, new-here, new-away}
 use Rattle.players.proofs.player_new.Statement.{statement}
 use Rattle.players.proofs.player_new.Tie as tie
 
 returns : tie.Need-returns
 returns c held inputs input former =
-    let st = c .before .before .before in
-    let a = st .args in
-    let m = memory (a .marks .now) (a .xs .now) (a .ys .now) held inputs input former in
-    let b = bits-are (a .cid) _ (st .fits .cid) (c .before .before .bits .ensures) in
-    c .refuse .ensures m ∙ new-negative (a .s) m (a .cid) (a .x) (a .y) (a .used) _ (st .fits .cid) b (c .before .if1 .taken)
-
-returns-2 : tie.Need-returns-2
-returns-2 c held inputs input former =
     let st = c .before .before .before .before in
     let a = st .args in
     let m = memory (a .marks .now) (a .xs .now) (a .ys .now) held inputs input former in
     let b = bits-are (a .cid) _ (st .fits .cid) (c .before .before .before .bits .ensures) in
-    c .refuse2 .ensures m ∙ new-far (a .s) m (a .cid) (a .x) (a .y) (a .used) _ (st .fits .cid) b (c .before .before .if1 .left) (c .before .if2 .taken)
+    rw (c .before .no-entry .ensures) at (c .refuse .ensures m)
+    ∙ new-far (a .s) m (a .cid) (a .x) (a .y) (a .used) _ (st .fits .cid) b (c .before .before .if1 .taken)
 
-returns-3 : tie.Need-returns-3
-returns-3 c held inputs input former =
-    let st = c .before .before .before .before .before .before in
-    let a = st .args in
-    let m = memory (a .marks .now) (a .xs .now) (a .ys .now) held inputs input former in
-    let b = bits-are (a .cid) _ (st .fits .cid) (c .before .before .before .before .before .bits .ensures) in
-    rw (back (a .x) (st .fits .x), back (a .y) (st .fits .y))
-    (c .refuse3 .ensures (withEntries (withPlayer (m .entries) (c .before .before .before .before .before .bits .result) 1 (a .x) (a .y)) m)
-    ∙ new-here (a .s) m (a .cid) (a .x) (a .y) (a .used) _ (st .fits .cid) b (c .before .before .before .if2 .left) (c .before .if3 .taken))
-
-returns-4 : tie.Need-returns-4
-returns-4 c held inputs input former =
+returns-2 : tie.Need-returns-2
+returns-2 c held inputs input former =
     let st = c .before .before .before .before .before in
     let a = st .args in
     let m = memory (a .marks .now) (a .xs .now) (a .ys .now) held inputs input former in
     let b = bits-are (a .cid) _ (st .fits .cid) (c .before .before .before .before .bits .ensures) in
-    rw (back (a .cid) (st .fits .cid), back (a .x) (st .fits .x), back (a .y) (st .fits .y))
-    (new-away (a .s) m (a .cid) (a .x) (a .y) (a .used) _ (st .fits .cid) b (c .before .before .if2 .left) (c .if3 .left))
+    rw (back (a .x) (st .fits .x), back (a .y) (st .fits .y))
+    (c .refuse2 .ensures (withEntries (withPlayer (m .entries) (c .before .before .before .before .bits .result) 1 (a .x) (a .y)) m)
+    ∙ new-here (a .s) m (a .cid) (a .x) (a .y) (a .used) _ (st .fits .cid) b (c .before .before .before .if1 .left) (c .before .if2 .taken))
+
+returns-3 : tie.Need-returns-3
+returns-3 c held inputs input former =
+    let st = c .before .before .before .before .before in
+    let a = st .args in
+    let m = memory (a .marks .now) (a .xs .now) (a .ys .now) held inputs input former in
+    let b = bits-are (a .cid) _ (st .fits .cid) (c .before .before .before .before .bits .ensures) in
+    c .gave .ensures _
+    ∙ rw (back (a .cid) (st .fits .cid), back (a .x) (st .fits .x), back (a .y) (st .fits .y))
+    (new-away (a .s) m (a .cid) (a .x) (a .y) (a .used) _ (st .fits .cid) b (c .before .before .before .if1 .left) (c .before .if2 .left))
 
 pub player-new-spec : {M : Type 1} → statement M
 player-new-spec =
     tie.close
-    (tie.spec (λ c κs. search needs) (λ c κs. search needs) returns (λ c κs. search needs) returns-2
+    (tie.spec (λ c κs. search needs) (λ c κs. search needs) (λ c κs. search needs) returns
     (λ c. search needs) (λ c. search needs) (λ c. search needs) (λ c. search needs) (λ c. search needs)
-    (λ c. search needs) (λ c. search needs) (λ c κs. search needs) returns-3 returns-4)
+    (λ c. search needs) (λ c. search needs) (λ c κs. search needs) returns-2 (λ c κs. search needs) returns-3)

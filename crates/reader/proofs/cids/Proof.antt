@@ -4,7 +4,7 @@ use lib.IntN.{pos, _+ℤ_}
 use mir.Syntax.{w64}
 use mir.Facts.{toZ-ofZ}
 use Rattle.state.proofs.Numbers.{element}
-use Rattle.reader.proofs.Lookups.{wide, wide-next}
+use Rattle.reader.proofs.Wide.{wide, wide-next}
 use Rattle.reader.proofs.cids.Statement.{statement}
 use Rattle.reader.proofs.cids.Tie as tie
 

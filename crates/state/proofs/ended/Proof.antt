@@ -1,19 +1,12 @@
 -- `state::ended` meets its contract. Assumes nothing.
-use mathlib.Core.Path.{_≡_}
-use mir.Syntax.{w32}
-use mir.Val.{toZ, ofZ}
-use Rattle.state.specs.Reading.{ending}
 use borrow.Author.Needs.{needs}
+use Rattle.state.specs.Reading.{ending}
+use Rattle.state.proofs.Numbers.{back}
 use Rattle.state.proofs.ended.Statement.{statement}
 use Rattle.state.proofs.ended.Tie as tie
 
-returns : tie.Need-returns
-unfolding ending
-returns c =
-    let a = c .before .args in
-    let t : toZ w32 (ofZ w32 (a .tick)) ≡ a .tick = search needs in
-    let l : toZ w32 (ofZ w32 (a .s .largest)) ≡ a .s .largest = search needs in
-    rw (t, l)
-
 pub ended-spec : {M : Type 1} → statement M
-ended-spec = tie.close (tie.spec returns)
+unfolding ending
+ended-spec =
+    tie.close
+    (tie.spec (λ c κs. search needs) (λ c. let st = c .before in rw (back (st .args .tick) (st .fits .tick)) at (c .ticked .ensures)))

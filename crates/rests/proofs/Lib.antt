@@ -1,0 +1,3 @@
+pub mod Slim
+pub mod Rests
+pub mod Others
