@@ -26,7 +26,6 @@ ghost use Rattle.state.specs.Views.{eventIs, done};
 ghost use Rattle.state.specs.Inside.{noEntry};
 use item::Item;
 use kinds::Cid;
-use kinds::Cid;
 use kinds::Kind;
 use kinds::Version;
 use refusal::Refusal;

@@ -3,7 +3,7 @@ use Prim.Native.Nat.{ℕ}
 use mathlib.Core.Path.{_≡_}
 use mathlib.Core.Bool.{Bool, true, false, cond, not, _&&_, _||_}
 use mathlib.Core.List.{List, [], _∷_, map}
-use lib.Dec.{leb}
+use lib.Dec.{leb, eqb}
 use lib.Signed.{nonNeg}
 use Rattle.refusal.specs.Said.{Said}
 use Rattle.varint.specs.Written.{writtenIf, wroteSaid, writing}
