@@ -56,30 +56,6 @@ fn put_two(n: u32, out: &mut [u8], at: usize) -> usize
     at + 1
 }
 
-// A number below 10000.
-fn put_four(n: u32, out: &mut [u8], at: usize) -> usize
-    requires { ⌜ (n < 10000) × (at + length (natural n) ≤ length (now out)) ⌝ }
-    ensures { λ r. ⌜ Puts (now (out .entry)) at (natural n) r (now (out .exit)) ⌝ }
-{
-    if 99 < n {
-        let next = put_two(n / 100, out, at);
-        return put_pair(n % 100, out, next);
-    }
-    put_two(n, out, at)
-}
-
-// A number below 1000000.
-fn put_six(n: u32, out: &mut [u8], at: usize) -> usize
-    requires { ⌜ (n < 1000000) × (at + length (natural n) ≤ length (now out)) ⌝ }
-    ensures { λ r. ⌜ Puts (now (out .entry)) at (natural n) r (now (out .exit)) ⌝ }
-{
-    if 9999 < n {
-        let next = put_four(n / 100, out, at);
-        return put_pair(n % 100, out, next);
-    }
-    put_four(n, out, at)
-}
-
 // Two pairs: the four digits of a number below 10000.
 fn put_pairs(n: u32, out: &mut [u8], at: usize) -> usize
     requires { ⌜ (n < 10000) × (at + 4 ≤ length (now out)) ⌝ }
@@ -87,6 +63,22 @@ fn put_pairs(n: u32, out: &mut [u8], at: usize) -> usize
 {
     let next = put_pair(n / 100, out, at);
     put_pair(n % 100, out, next)
+}
+
+// A number below 1000000.
+fn put_six(n: u32, out: &mut [u8], at: usize) -> usize
+    requires { ⌜ (n < 1000000) × (at + length (natural n) ≤ length (now out)) ⌝ }
+    ensures { λ r. ⌜ Puts (now (out .entry)) at (natural n) r (now (out .exit)) ⌝ }
+{
+    if n < 100 {
+        return put_two(n, out, at);
+    }
+    if n < 10000 {
+        let next = put_two(n / 100, out, at);
+        return put_pair(n % 100, out, next);
+    }
+    let next = put_two(n / 10000, out, at);
+    put_pairs(n % 10000, out, next)
 }
 
 // The digits of n.
@@ -98,7 +90,7 @@ fn put_natural(n: u32, out: &mut [u8], at: usize) -> usize
         let next = put_six(n / 10000, out, at);
         return put_pairs(n % 10000, out, next);
     }
-    put_four(n, out, at)
+    put_six(n, out, at)
 }
 
 // A space and a number.

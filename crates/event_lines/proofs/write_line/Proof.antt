@@ -1,17 +1,19 @@
 -- `event_lines::write_line` meets its contract. Assumes nothing.
-use Prim.Native.Nat.{_+_}
+use Prim.Native.Nat.{ℕ, _+_, _≤_}
 use mathlib.Core.Path.{_≡_, sym, _∙_}
 use mathlib.Core.Bool.{true}
-use mathlib.Core.List.{[], _∷_}
+use mathlib.Core.List.{List, [], _∷_}
 use native.Mathlib.Omega.{arith}
 use borrow.Author.Needs.{needs}
 use borrow.Author.Tests.{leb-false, not-true, not-false}
 use lib.ListN.{length}
 use lib.Dec.{leb}
+use lib.IntN.{ℤ}
 use mir.Syntax.{w32}
 use mir.Val.{toZ, ofZ}
+use Rattle.varint.specs.declared.Wrote.{Wrote}
 use Rattle.state.specs.Views.{eventIs}
-use Rattle.lines.specs.Lines.{startWord, endWord, newWord, changeWord, oldWord, inputWord, plainLine, plainMost, lineOf, longest}
+use Rattle.lines.specs.Lines.{startWord, endWord, newWord, changeWord, oldWord, inputWord, plainLine, plainMost, lineOf, longest, textAnswer, textTarget, lineAnswer, lineTarget}
 use Rattle.lines.proofs.Texts.{too-short, roomy}
 use Rattle.event_lines.proofs.write_line.Statement.{statement}
 use Rattle.event_lines.proofs.write_line.Tie as tie
@@ -25,70 +27,67 @@ returns c =
 fits : (c : tie.Else1) → let a = c .before .before .before .args in leb (a .at + longest) (length (a .out .now)) ≡ true
 fits c = sym (c .before .has-longest .ensures) ∙ not-false _ (c .if1 .left)
 
+-- a line of a word and numbers
+module _ (c : tie.Else1) (word : List ℕ) (ns : List ℤ) where
+  abbrev target : List ℕ
+  target = c .before .before .before .args .out .now
+
+  abbrev place : ℕ
+  place = c .before .before .before .args .at
+
+  abbrev line : List ℕ
+  line = plainLine word ns
+
+  put : plainMost word ns ≤ longest → (r : Wrote) (ys : List ℕ)
+      → (r ≡ textAnswer (plainMost word ns) target place line) × (ys ≡ textTarget (plainMost word ns) target place line)
+      → (r ≡ lineAnswer target place line) × (ys ≡ lineTarget target place line)
+  put h = roomy (plainMost word ns) target place line (fits c) h
+
 returns-2 : tie.Need-returns-2
 returns-2 c =
-    let t = c .before .before .before .before .before .before .before .before .before in
-    let a = t .before .before .before .args in
     let g = c .before .before .before .before .before .before .before .event .given in
     let v0 : toZ w32 (ofZ w32 (g .0 .0)) ≡ g .0 .0 = search needs in
-    let ns = g .0 .0 ∷ [] in
-    rw (g .1) (roomy (plainMost startWord ns) (a .out .now) (a .at) (plainLine startWord ns) (fits t) (omega arith) _ _ (rw v0 at (c .before .before .write-plain .ensures)))
+    rw (g .1) (put (c .before .before .before .before .before .before .before .before .before) startWord (g .0 .0 ∷ []) (omega arith) _ _ (rw v0 at (c .before .before .write-plain .ensures)))
 
 returns-3 : tie.Need-returns-3
 returns-3 c =
-    let t = c .before .before .before .before .before .before .before .before .before in
-    let a = t .before .before .before .args in
     let g = c .before .before .before .before .before .before .before .event2 .given in
     let v0 : toZ w32 (ofZ w32 (g .0 .0)) ≡ g .0 .0 = search needs in
-    let ns = g .0 .0 ∷ [] in
-    rw (g .1) (roomy (plainMost endWord ns) (a .out .now) (a .at) (plainLine endWord ns) (fits t) (omega arith) _ _ (rw v0 at (c .before .before .write-plain2 .ensures)))
+    rw (g .1) (put (c .before .before .before .before .before .before .before .before .before) endWord (g .0 .0 ∷ []) (omega arith) _ _ (rw v0 at (c .before .before .write-plain2 .ensures)))
 
 returns-4 : tie.Need-returns-4
 returns-4 c =
-    let t = c .before .before .before .before .before .before .before .before .before in
-    let a = t .before .before .before .args in
     let g = c .before .before .before .before .before .before .before .event3 .given in
     let v0 : toZ w32 (ofZ w32 (g .0 .0)) ≡ g .0 .0 = search needs in
     let v1 : toZ w32 (ofZ w32 (g .0 .1 .0)) ≡ g .0 .1 .0 = search needs in
     let v2 : toZ w32 (ofZ w32 (g .0 .1 .1 .0)) ≡ g .0 .1 .1 .0 = search needs in
-    let ns = g .0 .0 ∷ g .0 .1 .0 ∷ g .0 .1 .1 .0 ∷ [] in
-    rw (g .1) (roomy (plainMost newWord ns) (a .out .now) (a .at) (plainLine newWord ns) (fits t) (omega arith) _ _ (rw (v0, v1, v2) at (c .before .before .write-plain3 .ensures)))
+    rw (g .1) (put (c .before .before .before .before .before .before .before .before .before) newWord (g .0 .0 ∷ g .0 .1 .0 ∷ g .0 .1 .1 .0 ∷ []) (omega arith) _ _ (rw (v0, v1, v2) at (c .before .before .write-plain3 .ensures)))
 
 returns-5 : tie.Need-returns-5
 returns-5 c =
-    let t = c .before .before .before .before .before .before .before .before .before in
-    let a = t .before .before .before .args in
     let g = c .before .before .before .before .before .before .before .event4 .given in
     let v0 : toZ w32 (ofZ w32 (g .0 .0)) ≡ g .0 .0 = search needs in
     let v1 : toZ w32 (ofZ w32 (g .0 .1 .0)) ≡ g .0 .1 .0 = search needs in
     let v2 : toZ w32 (ofZ w32 (g .0 .1 .1 .0)) ≡ g .0 .1 .1 .0 = search needs in
     let v3 : toZ w32 (ofZ w32 (g .0 .1 .1 .1 .0)) ≡ g .0 .1 .1 .1 .0 = search needs in
     let v4 : toZ w32 (ofZ w32 (g .0 .1 .1 .1 .1 .0)) ≡ g .0 .1 .1 .1 .1 .0 = search needs in
-    let ns = g .0 .0 ∷ g .0 .1 .0 ∷ g .0 .1 .1 .0 ∷ g .0 .1 .1 .1 .0 ∷ g .0 .1 .1 .1 .1 .0 ∷ [] in
-    rw (g .1) (roomy (plainMost changeWord ns) (a .out .now) (a .at) (plainLine changeWord ns) (fits t) (omega arith) _ _ (rw (v0, v1, v2, v3, v4) at (c .before .before .write-plain4 .ensures)))
+    rw (g .1) (put (c .before .before .before .before .before .before .before .before .before) changeWord (g .0 .0 ∷ g .0 .1 .0 ∷ g .0 .1 .1 .0 ∷ g .0 .1 .1 .1 .0 ∷ g .0 .1 .1 .1 .1 .0 ∷ []) (omega arith) _ _ (rw (v0, v1, v2, v3, v4) at (c .before .before .write-plain4 .ensures)))
 
 returns-6 : tie.Need-returns-6
 returns-6 c =
-    let t = c .before .before .before .before .before .before .before .before .before in
-    let a = t .before .before .before .args in
     let g = c .before .before .before .before .before .before .before .event5 .given in
     let v0 : toZ w32 (ofZ w32 (g .0 .0)) ≡ g .0 .0 = search needs in
     let v1 : toZ w32 (ofZ w32 (g .0 .1 .0)) ≡ g .0 .1 .0 = search needs in
     let v2 : toZ w32 (ofZ w32 (g .0 .1 .1 .0)) ≡ g .0 .1 .1 .0 = search needs in
-    let ns = g .0 .0 ∷ g .0 .1 .0 ∷ g .0 .1 .1 .0 ∷ [] in
-    rw (g .1) (roomy (plainMost oldWord ns) (a .out .now) (a .at) (plainLine oldWord ns) (fits t) (omega arith) _ _ (rw (v0, v1, v2) at (c .before .before .write-plain5 .ensures)))
+    rw (g .1) (put (c .before .before .before .before .before .before .before .before .before) oldWord (g .0 .0 ∷ g .0 .1 .0 ∷ g .0 .1 .1 .0 ∷ []) (omega arith) _ _ (rw (v0, v1, v2) at (c .before .before .write-plain5 .ensures)))
 
 returns-7 : tie.Need-returns-7
 returns-7 c =
-    let t = c .before .before .before .before .before .before .before .before in
-    let a = t .before .before .before .args in
+    let a = c .before .before .before .before .before .before .before .before .before .before .before .args in
     let g = c .before .before .before .before .before .before .event6 .given in
     let v0 : toZ w32 (ofZ w32 (g .0 .0)) ≡ g .0 .0 = search needs in
     let ten : length (a .t2) ≡ 10 = search needs in
-    let ns = g .0 .0 ∷ a .t2 in
-    rw (g .1)
-    (roomy (plainMost inputWord ns) (a .out .now) (a .at) (plainLine inputWord ns) (fits t) (omega arith) _ _
-    (rw v0 at (c .before .before .write-input .ensures)))
+    rw (g .1) (put (c .before .before .before .before .before .before .before .before) inputWord (g .0 .0 ∷ a .t2) (omega arith) _ _ (rw v0 at (c .before .before .write-input .ensures)))
 
 returns-8 : tie.Need-returns-8
 returns-8 c =

@@ -2,23 +2,28 @@
 use Prim.Native.Nat.{_/_, _%_}
 use native.Mathlib.Omega.{arith}
 use borrow.Author.Needs.{needs}
-use Rattle.lines.proofs.Digits.{pair, Halves, by-pair}
+use Rattle.lines.proofs.Digits.{pair, pairs, Halves, by-pair, by-pairs}
 use Rattle.lines.proofs.put_six.Statement.{statement}
 use Rattle.lines.proofs.put_six.Tie as tie
 
-parts : (c : tie.Then1) → let a = c .before .before .args in Halves (a .out .now) (a .at) (a .n) (a .n / 100) (pair (a .n % 100))
-parts c = by-pair _ _ _ (c .before .before .pre .1) (omega arith) (omega arith)
+four : (c : tie.Then2) → let a = c .before .before .before .args in Halves (a .out .now) (a .at) (a .n) (a .n / 100) (pair (a .n % 100))
+four c = by-pair _ _ _ (c .before .before .before .pre .1) (omega arith) (omega arith)
 
-returns : tie.Need-returns
-returns c =
-    let q = c .before .before in
-    let p = q .before .before .before .before in
-    parts (p .before .before) .both _ _ (p .put-four .ensures) _ _ (q .put-pair .ensures)
+six : (c : tie.Else2) → let a = c .before .before .before .args in Halves (a .out .now) (a .at) (a .n) (a .n / 10000) (pairs (a .n % 10000))
+six c = by-pairs _ _ _ (c .before .before .before .pre .1) (omega arith) (omega arith)
 
 pub put-six-spec : {M : Type 1} → statement M
 put-six-spec =
     tie.close
     (tie.spec
-    (λ c κs. (omega arith, parts (c .before) .high-fits))
-    (λ c κs. let p = c .before .before .before in (omega arith, parts (p .before .before) .low-fits _ _ (p .put-four .ensures)))
-    (λ c. search needs) returns (λ c κs. search needs) (λ c. search needs) (λ c. search needs))
+    (λ c κs. search needs) (λ c. search needs) (λ c. search needs)
+    (λ c κs. (omega arith, four (c .before) .high-fits))
+    (λ c κs. let p = c .before .before .before in (omega arith, four (p .before .before) .low-fits _ _ (p .put-two2 .ensures)))
+    (λ c. search needs)
+    (λ c. let q = c .before .before in let p = q .before .before .before .before in
+    four (p .before .before) .both _ _ (p .put-two2 .ensures) _ _ (q .put-pair .ensures))
+    (λ c κs. (omega arith, six (c .before) .high-fits))
+    (λ c κs. let p = c .before .before .before in (omega arith, six (p .before .before) .low-fits _ _ (p .put-two3 .ensures)))
+    (λ c. search needs)
+    (λ c. let q = c .before .before in let p = q .before .before .before .before in
+    six (p .before .before) .both _ _ (p .put-two3 .ensures) _ _ (q .put-pairs .ensures)))

@@ -22,12 +22,6 @@ returns-2 c =
     ap (λ z. dataOf s z (f .0 .1 .0)) (sym (below-zero (f .0 .0) h (c .if1 .taken)))
     ∙ ap (dataAfter s) (sym (f .1) ∙ c .before .before .before .before .read-int .ensures)
 
-cast-read-raw : tie.Need-cast-read-raw
-cast-read-raw c =
-    let f = c .before .before .value .given in
-    let h : SFits w32 (f .0 .0) = search needs in
-    casts-64 (f .0 .0) h (c .if1 .left)
-
 returns-3 : tie.Need-returns-3
 unfolding readData
 returns-3 c =
@@ -41,4 +35,4 @@ returns-3 c =
 pub read-data-spec : {M : Type 1} → statement M
 read-data-spec =
     tie.close
-    (tie.spec (λ c κs. search needs) (λ c. search needs) (λ c. search needs) returns returns-2 cast-read-raw (λ c κs. search needs) returns-3)
+    (tie.spec (λ c κs. search needs) (λ c. search needs) (λ c. search needs) returns returns-2 (λ c. casts-64 (c .before .before .value .given .0 .0) (search needs) (c .if1 .left)) (λ c κs. search needs) returns-3)
