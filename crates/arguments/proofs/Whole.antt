@@ -21,7 +21,7 @@ use Rattle.item.specs.declared.Tag.the-variants.{Plain, Named, Other}
 use Rattle.records.specs.Views.{ownContent}
 use Rattle.rests.specs.Kinds.{isOther}
 use Rattle.rests.proofs.Others.{no-other, by-other}
-use Rattle.reader.specs.Answers.{isCommand}
+use Rattle.arguments.specs.Arguments.{isCommand}
 
 -- ---- as many values as fields
 
