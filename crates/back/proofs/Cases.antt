@@ -1,13 +1,11 @@
--- An event that fits and one that doesn't; the events of a client by the tests that the code makes (b is the client's bits); ten
--- numbers compared. Assumes nothing.
-use Prim.Native.Nat.{ℕ, _+_, _≤_, _<_}
+-- An event that fits and one that doesn't; the events of a client by the tests that the code makes (b is the client's bits).
+-- Assumes nothing.
+use Prim.Native.Nat.{ℕ, _≤_, _<_}
 use mathlib.Core.Path.{_≡_, refl}
 use mathlib.Core.Bool.{Bool, true, false, not, _&&_}
 use mathlib.Core.List.{List}
 use native.Mathlib.Omega.{arith}
-use native.Mathlib.Numerals.{add-one}
-use lib.ListN.{length, getD, drop, drop-of-length-le}
-use lib.Seq.{drop-cons}
+use lib.ListN.{getD}
 use lib.Dec.{eqb}
 use lib.IntN.{ℤ, pos, negsuc}
 use borrow.Author.Tests.{lt-ltb, le-ltb, not-true, not-false}
@@ -74,14 +72,3 @@ module _ (b : Board) (u : Undo) (g : Bool) (q : g ≡ goodBoard b) where
   pub good-in : not g ≡ false → (t : BoardTick) → b .tick ≡ t
       → steppedFrom (board t (b .entries)) (takeOff u t (b .entries)) ≡ steppedFrom b (takeBack b u)
   good-in n t p = rw (← q, not-false g n, ← p)
-
--- ---- ten numbers compared
-
-pub same-here : (a b : List ℤ) (k : ℕ) → k < length a → k < length b
-    → sameAll (drop k a) (drop k b) ≡ (same (getD a k (pos 0)) (getD b k (pos 0)) && sameAll (drop (k + 1) a) (drop (k + 1) b))
-unfolding sameAll
-same-here a b k ha hb = rw (drop-cons a k (pos 0) ha, drop-cons b k (pos 0) hb, add-one k)
-
-pub same-end : (a b : List ℤ) (k : ℕ) → length a ≤ k → length b ≤ k → sameAll (drop k a) (drop k b) ≡ true
-unfolding sameAll
-same-end a b k ha hb = rw (drop-of-length-le a {i = k} ha, drop-of-length-le b {i = k} hb)

@@ -1,7 +1,7 @@
 -- Stepping back over an event. docs/FORMAT.md, "Stepping back".
 use Prim.Native.Nat.{ℕ}
 use mathlib.Core.Bool.{Bool, true, false, not, cond, _&&_}
-use mathlib.Core.List.{List, [], _∷_}
+use mathlib.Core.List.{List}
 use lib.Dec.{ltb}
 use lib.IntN.{ℤ, pos, negsuc}
 use lib.Signed.{nonNeg}
@@ -12,6 +12,7 @@ use Rattle.state.specs.State.{same, present, xOf, yOf, withPlayer, holds, tenOf
 use Rattle.state.specs.Reading.{Event}
 use Rattle.state.specs.Reading as events
 use Rattle.state.specs.declared.Entries.{Entries}
+unfoldable pub use Rattle.compare.specs.Compare.{sameAll}
 use Rattle.back.specs.Board.{board, goodBoard}
 use Rattle.back.specs.declared.BoardTick.{BoardTick}
 use Rattle.back.specs.declared.BoardTick.the-variants.{In, NoTick}
@@ -29,12 +30,6 @@ pub data Back : Type 0 where
 -- an event fits, or it is refused 19
 abbrev pub onlyIf : Bool → Board → Back
 onlyIf fits b = cond fits (was b) (refused NotLast)
-
-unfoldable pub sameAll : List ℤ → List ℤ → Bool
-sameAll [] [] = true
-sameAll [] (b ∷ l) = false
-sameAll (a ∷ k) [] = false
-sameAll (a ∷ k) (b ∷ l) = same a b && sameAll k l
 
 -- a client of 0 to 127, present at the event's position
 abbrev pub presentAt : Entries → ℕ → ℤ → ℤ → Bool

@@ -1,9 +1,7 @@
 // The board, and stepping back over an event.
 ghost use mathlib.Core.Path.{_≡_};
-ghost use mathlib.Core.Bool.{_&&_};
 ghost use mathlib.Core.List.{List};
 ghost use Prim.Native.Nat.{_<_};
-ghost use lib.Dec.{eqb};
 ghost use lib.IntN.{ℤ};
 ghost use lib.Signed.{nonNeg};
 ghost use Rattle.refusal.specs.declared.Refusal.the-variants.{NotLast};
@@ -15,7 +13,6 @@ ghost use Rattle.back.specs.Back.{
   was,
   refused,
   onlyIf,
-  sameAll,
   unPresent,
   unOld,
   formerInput,
@@ -120,40 +117,13 @@ pub fn input(board: Board, cid: i32) -> InputOf
     lookups::input(entries, cid)
 }
 
-fn same_number(a: i32, b: i32) -> bool
-    ensures { λ r. ⌜ r ≡ same a b ⌝ }
-{
-    a == b
-}
-
-fn same_ten(a: [i32; 10], b: [i32; 10]) -> bool
-    ensures { λ r. ⌜ r ≡ sameAll a b ⌝ }
-{
-    let mut k: usize = 0;
-    while k < 10 {
-        let x = a[k];
-        let y = b[k];
-        if !same_number(x, y) {
-            return false;
-        }
-        k += 1;
-    }
-    true
-}
-
-fn not_negative(x: i32) -> bool
-    ensures { λ r. ⌜ r ≡ nonNeg x ⌝ }
-{
-    0 <= x
-}
-
 fn good_tick(tick: BoardTick) -> bool
     ensures { λ r. ⌜ r ≡ goodTick tick ⌝ }
 {
     let BoardTick::In(t) = tick else {
         return true;
     };
-    not_negative(t)
+    compare::not_negative(t)
 }
 
 // Whether the board is not refused 17.
@@ -211,16 +181,6 @@ fn with_input(entries: Entries, c: usize, mark: u8, ns: [i32; 10]) -> Entries
     before
 }
 
-// Whether an entry has mark 1 and the position x, y.
-fn at_position(mark: u8, px: i32, py: i32, x: i32, y: i32) -> bool
-    ensures { λ r. ⌜ r ≡ (eqb mark 1 && (same px x && same py y)) ⌝ }
-{
-    good::both(
-        mark == 1,
-        good::both(same_number(px, x), same_number(py, y)),
-    )
-}
-
 // PlayerNew and PlayerChange: the client is at x, y, and its entry was another.
 fn un_present(
     t: i32,
@@ -239,7 +199,7 @@ fn un_present(
         return not_last(BoardTick::In(t), entries);
     }
     let c = bits as usize;
-    if !at_position(entries.marks[c], entries.xs[c], entries.ys[c], x, y) {
+    if !compare::at_position(entries.marks[c], entries.xs[c], entries.ys[c], x, y) {
         return not_last(BoardTick::In(t), entries);
     }
     let before = with_player(entries, c, mark, old_x, old_y);
@@ -290,7 +250,7 @@ fn un_input(
         return not_last(BoardTick::In(t), entries);
     }
     let ten = inputs::ten_at(&entries.inputs, c);
-    if !same_ten(ten, input) {
+    if !compare::same_ten(ten, input) {
         return not_last(BoardTick::In(t), entries);
     }
     let before = former_input(entries, c, had, former);
@@ -300,7 +260,7 @@ fn un_input(
 fn un_start(t: i32, entries: Entries, u: i32) -> SteppedBack
     ensures { λ r. ⌜ r ≡ steppedFrom (board (In t) entries) (onlyIf (same t u) (board NoTick entries)) ⌝ }
 {
-    if same_number(t, u) {
+    if compare::same_number(t, u) {
         return stepped(BoardTick::NoTick, entries);
     }
     not_last(BoardTick::In(t), entries)
@@ -330,7 +290,7 @@ fn inside(t: i32, entries: Entries, undo: Undo, input: [i32; 10], former: [i32; 
 fn un_end(entries: Entries, u: i32) -> SteppedBack
     ensures { λ r. ⌜ r ≡ steppedFrom (board NoTick entries) (onlyIf (nonNeg u) (board (In u) entries)) ⌝ }
 {
-    if not_negative(u) {
+    if compare::not_negative(u) {
         return stepped(BoardTick::In(u), entries);
     }
     not_last(BoardTick::NoTick, entries)

@@ -1,7 +1,7 @@
 -- A call on a reader by the tests that the code makes. Assumes nothing.
 use Prim.Native.Nat.{ℕ}
-use mathlib.Core.Path.{_≡_, refl, sym, subst, _∙_}
-use mathlib.Core.Bool.{Bool, true, false, not, cond}
+use mathlib.Core.Path.{_≡_, subst, _∙_}
+use mathlib.Core.Bool.{Bool, true, false}
 use mathlib.Core.List.{List}
 use Rattle.refusal.specs.declared.Refusal.the-variants.{BadState, Closed}
 use Rattle.item.specs.Said.{refusing}
@@ -11,15 +11,6 @@ use Rattle.state.specs.declared.Reader.{Reader}
 use Rattle.reader.specs.Answers.{Tells}
 use Rattle.reader.specs.declared.ReadAnswer.{ReadAnswer}
 use Rattle.state.proofs.Numbers.{picks-first, picks-second}
-
--- a test that was turned round
-pub off : (b x : Bool) → b ≡ x → not b ≡ true → x ≡ false
-off true x e h = sym e ∙ sym h
-off false x e h = sym e
-
-pub on : (b x : Bool) → b ≡ x → not b ≡ false → x ≡ true
-on true x e h = sym e
-on false x e h = sym e ∙ sym h
 
 -- the same call by another name
 pub renamed : {t u : Step} {r : ReadAnswer} → t ≡ u → Tells t r → Tells u r

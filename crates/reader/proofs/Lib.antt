@@ -1,5 +1,2 @@
-pub mod Whole
-pub mod Records
-pub mod Arguments
 pub mod Wide
 pub mod Calls

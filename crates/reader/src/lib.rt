@@ -2,26 +2,20 @@
 ghost use mathlib.Core.Path.{_≡_};
 ghost use lib.IntN.{pos, _+ℤ_};
 ghost use Rattle.item.specs.Said.{refusing};
-ghost use Rattle.item.specs.Contents.{noArgs};
 ghost use Rattle.state.specs.State.{entriesWith, goodReader};
 ghost use Rattle.state.specs.Reading.{step, openCall, memoryOf};
 ghost use Rattle.reader.specs.Answers.{Tells, ReadIs};
-ghost use Rattle.kinds.specs.Kinds.{isCommand};
-ghost use Rattle.reader.specs.Inside.{recordEvent, isRecord, ArgsFor, readAnswer};
+ghost use Rattle.reader.specs.Inside.{readAnswer};
 ghost use Rattle.lookups.specs.Lookups.{posOf, inputFor};
 ghost use Rattle.reader.specs.Wanted.{WantedIs};
 use fields::Args;
-use kinds::Kind;
-use kinds::KindRead;
 use kinds::Version;
 use kinds::VersionOf;
 use lookups::InputOf;
 use lookups::Pos;
-use packer::Part;
 use refusal::Refusal;
 use state::Answer;
 use state::Entries;
-use state::Event;
 use state::Reader;
 use state::Scalars;
 
@@ -80,92 +74,6 @@ pub fn is_good(reader: Reader) -> bool
     )
 }
 
-const NO_PART: Part = Part { at: 0, len: 0 };
-
-fn no_args() -> Args
-    ensures { λ r. ⌜ r ≡ noArgs ⌝ }
-{
-    Args {
-        count: 0,
-        parts: [NO_PART; 16],
-    }
-}
-
-fn is_record_event(event: Event) -> bool
-    ensures { λ r. ⌜ r ≡ recordEvent event ⌝ }
-{
-    match event {
-        Event::TickStart(_) => false,
-        Event::TickEnd(_) => false,
-        Event::PlayerNew { cid: _, x: _, y: _ } => false,
-        Event::PlayerChange {
-            cid: _,
-            x: _,
-            y: _,
-            old_x: _,
-            old_y: _,
-        } => false,
-        Event::PlayerOld { cid: _, x: _, y: _ } => false,
-        Event::Input { cid: _, former: _ } => false,
-        Event::Record(_) => true,
-    }
-}
-
-fn is_record(answer: Answer) -> bool
-    ensures { λ r. ⌜ r ≡ isRecord answer ⌝ }
-{
-    match answer {
-        Answer::Event { event, used: _ } => is_record_event(event),
-        Answer::More => false,
-        Answer::Finish { used: _ } => false,
-        Answer::Refused(_) => false,
-    }
-}
-
-fn is_command(kind: Kind) -> bool
-    ensures { λ r. ⌜ r ≡ isCommand kind ⌝ }
-{
-    match kind {
-        Kind::PlayerDiff(_) => false,
-        Kind::Finish => false,
-        Kind::TickSkip => false,
-        Kind::PlayerNew(_) => false,
-        Kind::PlayerOld(_) => false,
-        Kind::InputDiff => false,
-        Kind::InputNew => false,
-        Kind::Message => false,
-        Kind::Join => false,
-        Kind::Drop => false,
-        Kind::ConsoleCommand => true,
-        Kind::Ex => false,
-    }
-}
-
-// The arguments that stand beside the record that a call gave; none beside anything but a command.
-fn args_of(answer: Answer, s: Scalars, w: &[u8]) -> Args
-    ensures { λ r. ⌜ ArgsFor answer s (now (w .entry)) r ⌝ }
-{
-    if !is_record(answer) {
-        return no_args();
-    }
-    let version = s.version;
-    let pending = s.pending;
-    let read = step::next_kind(version, pending, w);
-    match read {
-        KindRead::Got { kind, next } => {
-            if is_command(kind) {
-                let rest = records::read_rest(kind, w, next);
-                let value = rest.value;
-                let args = value.args;
-                return args;
-            }
-            no_args()
-        }
-        KindRead::RunsOut => no_args(),
-        KindRead::Refused(_) => no_args(),
-    }
-}
-
 // What a call on lent entries says, the scalars that it leaves, and what stands beside an event.
 struct Told {
     answer: Answer,
@@ -203,7 +111,7 @@ fn refused(reader: Reader, why: Refusal) -> ReadAnswer
         scalars,
         input: [0; 10],
         former: [0; 10],
-        args: no_args(),
+        args: arguments::no_args(),
     };
     answered(told, entries)
 }
@@ -238,7 +146,7 @@ fn open_told(
     );
     let answer = o.answer;
     let scalars = o.scalars;
-    let args = args_of(answer, s, window);
+    let args = arguments::args_of(answer, s, window);
     Told {
         answer,
         scalars,

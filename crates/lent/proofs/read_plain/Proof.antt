@@ -51,11 +51,11 @@ use Rattle.state.proofs.Answer as E
 use Rattle.state.proofs.Answer.Laws as E′
 use Rattle.state.proofs.Outcome as O
 use Rattle.state.proofs.Outcome.Laws as O′
-use Rattle.lent.proofs.Lending.{Marks, Places, Inputs, Ten, Lent, rows, window, flag, valsOf, machsOf, Left, lasting, Says, mach, outcome, gave, answer-told, outcome-is, cell-in, cell-out}
-use Rattle.lent.proofs.read_lent as read-lent
-use Rattle.lent.proofs.read_lent.Symbol as read-lent-def
-use Rattle.lent.proofs.read_lent.Symbol.{name as #lent·read-lent}
-use Rattle.lent.proofs.read_lent.Met as read-lent-thm
+use Rattle.lending.proofs.Lending.{Marks, Places, Inputs, Ten, Lent, rows, window, flag, valsOf, machsOf, Left, lasting, Says, mach, outcome, gave, answer-told, outcome-is, cell-in, cell-out}
+use Rattle.lending.proofs.read_lent as read-lent
+use Rattle.lending.proofs.read_lent.Symbol as read-lent-def
+use Rattle.lending.proofs.read_lent.Symbol.{name as #lent·read-lent}
+use Rattle.lending.proofs.read_lent.Met as read-lent-thm
 use Rattle.lent.proofs.read_plain.Key.{name as #lent·read-plain}
 use Rattle.lent.proofs.read_plain as read-plain
 use Rattle.lent.proofs.read_plain.Statement as stated
@@ -205,4 +205,4 @@ read-plain-spec 𝓤 H 𝓜 𝓖 𝓡 =
     entered 𝓤 H (tripleOf 𝓤 H (𝓖 .A) read-plain.signature (read-plain.spec 𝓤 H (𝓖 .A) (𝓜 .mem) (𝓡 .run)))
     (tables 𝓤 H 𝓜 𝓡 code.env .C) (tables 𝓤 H 𝓜 𝓡 code.env .Λ) #lent·read-plain code.function (code.unfolded 𝓤 H 𝓜 𝓡)
     (meets 𝓤 H (𝓖 .A) (givenOf 𝓤 H 𝓜 𝓖) (𝓜 .mem) (𝓡 .run) (tablesOf 𝓤 H 𝓜 (tables 𝓤 H 𝓜 𝓡 code.env))
-    (cited 𝓤 H (ReadLent 𝓤 H (𝓖 .A) (𝓜 .mem) (𝓡 .run)) 𝓜 𝓡 code.env #lent·read-lent read-lent-def.routine code.calls-lent·read-lent (read-lent-thm.met 𝓤 H 𝓜 𝓖 𝓡)))
+    (cited 𝓤 H (ReadLent 𝓤 H (𝓖 .A) (𝓜 .mem) (𝓡 .run)) 𝓜 𝓡 code.env #lent·read-lent read-lent-def.routine code.calls-lending·read-lent (read-lent-thm.met 𝓤 H 𝓜 𝓖 𝓡)))

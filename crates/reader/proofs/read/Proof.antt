@@ -1,6 +1,7 @@
 -- `reader::read` meets its contract. Assumes nothing.
 use mathlib.Core.Path.{_≡_}
-use Rattle.reader.proofs.Calls.{off, on, renamed, call-bad, call-closed, call-open}
+use Rattle.arguments.proofs.Tests.{off, on}
+use Rattle.reader.proofs.Calls.{renamed, call-bad, call-closed, call-open}
 use borrow.Author.Needs.{needs}
 use Rattle.reader.proofs.read.Statement.{statement}
 use Rattle.reader.proofs.read.Tie as tie

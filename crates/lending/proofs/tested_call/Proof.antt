@@ -1,11 +1,11 @@
--- `lent::tested_call` meets its contract. Assumes nothing.
+-- `lending::tested_call` meets its contract. Assumes nothing.
 use mathlib.Core.Path.{sym, ap, _∙_}
 use borrow.Author.Needs.{needs}
 use borrow.Author.Tests.{not-true, not-false}
 use Rattle.state.specs.Views.{slimStep}
 use Rattle.state.proofs.Numbers.{picks-first, picks-second}
-use Rattle.lent.proofs.tested_call.Statement.{statement}
-use Rattle.lent.proofs.tested_call.Tie as tie
+use Rattle.lending.proofs.tested_call.Statement.{statement}
+use Rattle.lending.proofs.tested_call.Tie as tie
 
 returns : tie.Need-returns
 returns c =

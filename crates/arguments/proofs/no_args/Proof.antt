@@ -1,9 +1,9 @@
--- `reader::no_args` meets its contract. Assumes nothing.
+-- `arguments::no_args` meets its contract. Assumes nothing.
 use mathlib.Core.Path.{refl}
 use Rattle.fields.specs.Views.{argsWith}
 use borrow.Author.Needs.{needs}
-use Rattle.reader.proofs.no_args.Statement.{statement}
-use Rattle.reader.proofs.no_args.Tie as tie
+use Rattle.arguments.proofs.no_args.Statement.{statement}
+use Rattle.arguments.proofs.no_args.Tie as tie
 
 returns : tie.Need-returns
 unfolding argsWith

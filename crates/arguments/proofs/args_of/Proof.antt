@@ -1,10 +1,10 @@
--- `reader::args_of` meets its contract. Assumes nothing.
+-- `arguments::args_of` meets its contract. Assumes nothing.
 use mathlib.Core.Path.{_≡_, sym, _∙_}
-use Rattle.reader.proofs.Calls.{off, on}
-use Rattle.reader.proofs.Arguments.{args-none, args-plain, args-command, args-out, args-refused}
+use Rattle.arguments.proofs.Tests.{off, on}
+use Rattle.arguments.proofs.Arguments.{args-none, args-plain, args-command, args-out, args-refused}
 use borrow.Author.Needs.{needs}
-use Rattle.reader.proofs.args_of.Statement.{statement}
-use Rattle.reader.proofs.args_of.Tie as tie
+use Rattle.arguments.proofs.args_of.Statement.{statement}
+use Rattle.arguments.proofs.args_of.Tie as tie
 
 returns : tie.Need-returns
 returns c =

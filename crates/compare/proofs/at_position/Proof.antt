@@ -1,8 +1,8 @@
--- `back::at_position` meets its contract. Assumes nothing.
+-- `compare::at_position` meets its contract. Assumes nothing.
 use borrow.Author.Needs.{needs}
 use Rattle.state.proofs.Numbers.{back}
-use Rattle.back.proofs.at_position.Statement.{statement}
-use Rattle.back.proofs.at_position.Tie as tie
+use Rattle.compare.proofs.at_position.Statement.{statement}
+use Rattle.compare.proofs.at_position.Tie as tie
 
 returns : tie.Need-returns
 returns c =

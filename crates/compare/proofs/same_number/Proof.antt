@@ -1,7 +1,7 @@
--- `back::same_number` meets its contract. Assumes nothing.
+-- `compare::same_number` meets its contract. Assumes nothing.
 use Rattle.good.proofs.Tests.{same-bits}
-use Rattle.back.proofs.same_number.Statement.{statement}
-use Rattle.back.proofs.same_number.Tie as tie
+use Rattle.compare.proofs.same_number.Statement.{statement}
+use Rattle.compare.proofs.same_number.Tie as tie
 
 pub same-number-spec : {M : Type 1} → statement M
 same-number-spec = tie.close (tie.spec (λ c. same-bits (c .args .a) (c .args .b) (c .fits .a) (c .fits .b)))

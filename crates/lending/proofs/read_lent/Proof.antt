@@ -1,4 +1,4 @@
--- `lent::read_lent` meets its contract: a walk of its MIR, by hand. The borrow of the scalars is opened, they are copied out and passed
+-- `lending::read_lent` meets its contract: a walk of its MIR, by hand. The borrow of the scalars is opened, they are copied out and passed
 -- to `tested_call` by value, with the references, the window and the flag; the scalars that it left are stored over them, and the borrow is
 -- closed there. All that the walk knows of `tested_call` is that it meets its contract. Assumes nothing.
 use Prim.Native.Nat.{ℕ}
@@ -50,15 +50,15 @@ use Rattle.state.proofs.Answer as E
 use Rattle.state.proofs.Answer.Laws as E′
 use Rattle.state.proofs.Outcome as O
 use Rattle.state.proofs.Outcome.Laws as O′
-use Rattle.lent.proofs.Lending.{Marks, Places, Inputs, Ten, Lent, rows, window, flag, valsOf, machsOf, Left, lasting, Says, mach, told, answer-is, scalars-are}
-use Rattle.lent.proofs.tested_call as tested-call
-use Rattle.lent.proofs.tested_call.Symbol as tested-call-def
-use Rattle.lent.proofs.tested_call.Symbol.{name as #lent·tested-call}
-use Rattle.lent.proofs.tested_call.Met as tested-call-thm
-use Rattle.lent.proofs.read_lent.Key.{name as #lent·read-lent}
-use Rattle.lent.proofs.read_lent as read-lent
-use Rattle.lent.proofs.read_lent.Statement as stated
-use Rattle.lent.proofs.read_lent.Code as code
+use Rattle.lending.proofs.Lending.{Marks, Places, Inputs, Ten, Lent, rows, window, flag, valsOf, machsOf, Left, lasting, Says, mach, told, answer-is, scalars-are}
+use Rattle.lending.proofs.tested_call as tested-call
+use Rattle.lending.proofs.tested_call.Symbol as tested-call-def
+use Rattle.lending.proofs.tested_call.Symbol.{name as #lent·tested-call}
+use Rattle.lending.proofs.tested_call.Met as tested-call-thm
+use Rattle.lending.proofs.read_lent.Key.{name as #lent·read-lent}
+use Rattle.lending.proofs.read_lent as read-lent
+use Rattle.lending.proofs.read_lent.Statement as stated
+use Rattle.lending.proofs.read_lent.Code as code
 
 abbrev stayed : Stays (read-lent.ended .signature .params) (read-lent.ended .kept)
 stayed =
@@ -207,4 +207,4 @@ read-lent-spec 𝓤 H 𝓜 𝓖 𝓡 =
     entered 𝓤 H (tripleOf 𝓤 H (𝓖 .A) read-lent.signature (read-lent.spec 𝓤 H (𝓖 .A) (𝓜 .mem) (𝓡 .run)))
     (tables 𝓤 H 𝓜 𝓡 code.env .C) (tables 𝓤 H 𝓜 𝓡 code.env .Λ) #lent·read-lent code.function (code.unfolded 𝓤 H 𝓜 𝓡)
     (meets 𝓤 H (𝓖 .A) (givenOf 𝓤 H 𝓜 𝓖) (𝓜 .mem) (𝓡 .run) (tablesOf 𝓤 H 𝓜 (tables 𝓤 H 𝓜 𝓡 code.env))
-    (cited 𝓤 H (TestedCall 𝓤 H (𝓖 .A) (𝓜 .mem) (𝓡 .run)) 𝓜 𝓡 code.env #lent·tested-call tested-call-def.routine code.calls-lent·tested-call (tested-call-thm.met 𝓤 H 𝓜 𝓖 𝓡)))
+    (cited 𝓤 H (TestedCall 𝓤 H (𝓖 .A) (𝓜 .mem) (𝓡 .run)) 𝓜 𝓡 code.env #lent·tested-call tested-call-def.routine code.calls-lending·tested-call (tested-call-thm.met 𝓤 H 𝓜 𝓖 𝓡)))

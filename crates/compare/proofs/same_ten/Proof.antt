@@ -1,4 +1,4 @@
--- `back::same_ten` meets its contract. Assumes nothing.
+-- `compare::same_ten` meets its contract. Assumes nothing.
 use borrow.Author.Needs.{needs}
 use Prim.Native.Nat.{_+_, _-_, _≤_}
 use mathlib.Core.Path.{_≡_, refl, sym, _∙_}
@@ -8,10 +8,10 @@ use lib.ListN.{length, getD, drop}
 use lib.IntN.{pos}
 use borrow.Author.Tests.{not-true, not-false}
 use Rattle.state.proofs.Numbers.{element}
-use Rattle.back.specs.Back.{sameAll}
-use Rattle.back.proofs.Cases.{same-here, same-end}
-use Rattle.back.proofs.same_ten.Statement.{statement}
-use Rattle.back.proofs.same_ten.Tie as tie
+use Rattle.compare.specs.Compare.{sameAll}
+use Rattle.compare.proofs.Tens.{same-here, same-end}
+use Rattle.compare.proofs.same_ten.Statement.{statement}
+use Rattle.compare.proofs.same_ten.Tie as tie
 
 abbrev Inv-loop : tie.InvT-loop
 Inv-loop a b k₀ k = (k ≤ 10) × (sameAll (drop k a) (drop k b) ≡ sameAll a b)

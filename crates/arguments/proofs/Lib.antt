@@ -1,0 +1,4 @@
+pub mod Tests
+pub mod Whole
+pub mod Records
+pub mod Arguments
