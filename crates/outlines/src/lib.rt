@@ -1,130 +1,440 @@
-// The outline of a record's written form: what stands before its fields, and the plan of the fields.
+// What a record's written form is: its pieces, one after the other. Whether all of them can be written, and the room that they leave.
 ghost use mathlib.Core.Path.{_≡_};
-ghost use mathlib.Core.Bool.{true, false};
-ghost use lib.IntN.{pos};
-ghost use Rattle.plans.specs.Plans.{planOf};
-ghost use Rattle.outlines.specs.Outlines.{outlineWith, kindOutline, otherWith, otherOutline, payloadPlan};
+ghost use mathlib.Core.Bool.{Bool, true};
+ghost use Prim.Native.Nat.{_≤_};
+ghost use lib.ListN.{length, getD};
+ghost use Rattle.fields.specs.Writing.{inside};
+ghost use Rattle.item.specs.Kinds.{kindNumber};
+ghost use Rattle.item.specs.Contents.{fromFields};
+ghost use Rattle.item.specs.declared.Tag.the-variants.{Named, Other};
+ghost use Rattle.item.specs.declared.Version.the-variants.{V2};
+ghost use Rattle.outlines.specs.Outlines.{
+  planWith,
+  planOf,
+  payloadPlan,
+  checkedPiece,
+  countPiece,
+  outlineWith,
+  unwritable,
+  kindOutline,
+  inVersion,
+  numberPieces,
+  argPieces,
+  piecesOf,
+  pastPieces,
+  pieceOk,
+  pieceBytes,
+  piecesOk,
+  piecesBytes,
+  leftAfter,
+  Outlines,
+};
+use fields::Args;
 use item::Kind;
+use item::Tag;
 use item::Version;
 use layouts::Layout;
-use plans::Plan;
-use plans::Tail;
-use plans::Text;
+use packer::Part;
+use shapes::Fields;
 use shapes::Shape;
 
+// A piece of a written form: none, one that can't be written, a number, bytes as they are, a string, data, the identifier of an
+// extension.
+pub enum Piece {
+    Empty,
+    Never,
+    Int(i32),
+    Raw(Part),
+    Str(Part),
+    Data(Part),
+    Id(usize),
+}
+
+// What follows the fields: nothing, the ten numbers of an input, the arguments of a command.
+pub enum Tail {
+    Nothing,
+    Numbers,
+    Arguments,
+}
+
+// The fields.
+pub struct Plan {
+    pub one: Piece,
+    pub two: Piece,
+    pub three: Piece,
+    pub four: Piece,
+}
+
+// In this order: the kind's number; its client, or an extension's identifier; the size of an extension's data; the fields; how many
+// arguments there are; and what follows.
 pub struct Outline {
-    // The kind's number, and the client that follows it.
-    pub number: i32,
-    pub player: bool,
-    pub client: i32,
-    // The record has no written form where this is negative.
-    pub checked: i32,
+    pub number: Piece,
+    pub client: Piece,
+    pub size: Piece,
     pub plan: Plan,
+    pub count: Piece,
+    pub tail: Tail,
 }
 
-// A record whose kind has no client.
-fn outlined(number: i32, checked: i32, shape: Shape, tail: Tail) -> Outline
-    ensures { λ r. ⌜ r ≡ outlineWith number false (pos 0) checked (planOf shape tail) ⌝ }
+// The bytes of room that are left, that there are too few, or that something can't be written.
+pub enum Left {
+    Room(usize),
+    Short,
+    Unwritable,
+}
+
+// ---- the pieces of a record
+
+fn plan_with(one: Piece, two: Piece, three: Piece, four: Piece) -> Plan
+    ensures { λ r. ⌜ r ≡ planWith one two three four ⌝ }
 {
-    Outline {
-        number,
-        player: false,
-        client: 0,
-        checked,
-        plan: plans::plan_of(shape, tail),
+    Plan {
+        one,
+        two,
+        three,
+        four,
     }
 }
 
-// A record whose kind has a client.
-fn of_player(number: i32, cid: i32, shape: Shape) -> Outline
-    ensures { λ r. ⌜ r ≡ outlineWith number true cid (pos 0) (planOf shape Tail.Nothing) ⌝ }
+// The fields of a shape.
+fn plan_of(shape: Shape, f: Fields) -> Plan
+    ensures { λ r. ⌜ r ≡ planOf shape f ⌝ }
 {
-    Outline {
-        number,
-        player: true,
-        client: cid,
-        checked: 0,
-        plan: plans::plan_of(shape, Tail::Nothing),
-    }
-}
-
-// The record of a kind whose first number this is; dt above 2147483647 is negative as an i32.
-pub fn kind_outline(kind: Kind, first: i32) -> Outline
-    ensures { λ r. ⌜ r ≡ kindOutline kind first ⌝ }
-{
-    match kind {
-        Kind::PlayerDiff(cid) => outlined(cid, cid, Shape::IntInt, Tail::Nothing),
-        Kind::Finish => outlined(Kind::FINISH, 0, Shape::Nothing, Tail::Nothing),
-        Kind::TickSkip => outlined(Kind::TICK_SKIP, first, Shape::Int, Tail::Nothing),
-        Kind::PlayerNew(cid) => of_player(Kind::PLAYER_NEW, cid, Shape::IntInt),
-        Kind::PlayerOld(cid) => of_player(Kind::PLAYER_OLD, cid, Shape::Nothing),
-        Kind::InputDiff => outlined(Kind::INPUT_DIFF, 0, Shape::Int, Tail::Numbers),
-        Kind::InputNew => outlined(Kind::INPUT_NEW, 0, Shape::Int, Tail::Numbers),
-        Kind::Message => outlined(Kind::MESSAGE, 0, Shape::IntData, Tail::Nothing),
-        Kind::Join => outlined(Kind::JOIN, 0, Shape::Int, Tail::Nothing),
-        Kind::Drop => outlined(Kind::DROP, 0, Shape::IntStr, Tail::Nothing),
-        Kind::ConsoleCommand => outlined(
-            Kind::CONSOLE_COMMAND,
-            0,
-            Shape::IntIntStr,
-            Tail::Arguments,
-        ),
-        Kind::Ex => outlined(Kind::EX, -1, Shape::Nothing, Tail::Nothing),
-    }
-}
-
-fn other(checked: i32) -> Outline
-    ensures { λ r. ⌜ r ≡ otherWith checked ⌝ }
-{
-    Outline {
-        number: Kind::EX,
-        player: false,
-        client: 0,
-        checked,
-        plan: Plan {
-            first: false,
-            uuid: true,
-            second: false,
-            text: Text::Data,
-            tail: Tail::Nothing,
-        },
-    }
-}
-
-// Another extension, whose identifier is found at this place among the 20: an identifier and data, in version 2, if it is none of them.
-pub fn other_outline(version: Version, found: usize) -> Outline
-    ensures { λ r. ⌜ r ≡ otherOutline version found ⌝ }
-{
-    match version {
-        Version::V1 => other(-1),
-        Version::V2 => {
-            if found == 20 {
-                return other(0);
-            }
-            other(-1)
-        }
+    let words = f.text;
+    let part = Part {
+        at: f.uuid,
+        len: 16,
+    };
+    let first = Piece::Int(f.first);
+    let second = Piece::Int(f.second);
+    let id = Piece::Raw(part);
+    let text = Piece::Str(words);
+    let none = Piece::Empty;
+    match shape {
+        Shape::Nothing => plan_with(none, none, none, none),
+        Shape::Int => plan_with(first, none, none, none),
+        Shape::IntInt => plan_with(first, second, none, none),
+        Shape::IntStr => plan_with(first, text, none, none),
+        Shape::IntIntStr => plan_with(first, second, text, none),
+        Shape::IntUuidStr => plan_with(first, id, text, none),
+        Shape::IntUuidIntStr => plan_with(first, id, second, text),
+        Shape::IntData => plan_with(first, Piece::Data(words), none, none),
     }
 }
 
 // The fields of an extension's data.
-pub fn payload_plan(layout: Layout) -> Plan
-    ensures { λ r. ⌜ r ≡ payloadPlan layout ⌝ }
+fn payload_plan(layout: Layout, f: Fields) -> Plan
+    ensures { λ r. ⌜ r ≡ payloadPlan layout f ⌝ }
 {
+    let none = Piece::Empty;
+    let words = f.text;
     match layout {
-        Layout::Shaped(shape) => plans::plan_of(shape, Tail::Nothing),
-        Layout::Whole => Plan {
-            first: false,
-            uuid: false,
-            second: false,
-            text: Text::Whole,
-            tail: Tail::Nothing,
+        Layout::Shaped(shape) => plan_of(shape, f),
+        Layout::Whole => plan_with(Piece::Raw(words), none, none, none),
+        Layout::Unknown => plan_with(Piece::Never, none, none, none),
+    }
+}
+
+// No piece, and none that can be written where the number is negative.
+fn checked(value: i32) -> Piece
+    ensures { λ r. ⌜ r ≡ checkedPiece value ⌝ }
+{
+    if value < 0 {
+        return Piece::Never;
+    }
+    Piece::Empty
+}
+
+// The number of arguments, at most 16.
+fn count_piece(count: usize) -> Piece
+    ensures { λ r. ⌜ r ≡ countPiece count ⌝ }
+{
+    if 16 < count {
+        return Piece::Never;
+    }
+    Piece::Int(count as i32)
+}
+
+// A record with nothing behind its fields.
+fn outline_with(number: Piece, client: Piece, size: Piece, plan: Plan) -> Outline
+    ensures { λ r. ⌜ r ≡ outlineWith number client size plan Piece.Empty Tail.Nothing ⌝ }
+{
+    Outline {
+        number,
+        client,
+        size,
+        plan,
+        count: Piece::Empty,
+        tail: Tail::Nothing,
+    }
+}
+
+// What has no written form.
+fn never() -> Outline
+    ensures { λ r. ⌜ r ≡ unwritable ⌝ }
+{
+    let none = Piece::Empty;
+    outline_with(Piece::Never, none, none, plan_with(none, none, none, none))
+}
+
+fn outlined(kind: Kind, client: Piece, plan: Plan, count: Piece, tail: Tail) -> Outline
+    ensures { λ r. ⌜ r ≡ outlineWith (Piece.Int (kindNumber kind)) client Piece.Empty plan count tail ⌝ }
+{
+    Outline {
+        number: Piece::Int(kind.number()),
+        client,
+        size: Piece::Empty,
+        plan,
+        count,
+        tail,
+    }
+}
+
+// The record of a kind; dt above 2147483647 is negative as an i32.
+fn kind_outline(kind: Kind, f: Fields, count: usize) -> Outline
+    ensures { λ r. ⌜ r ≡ kindOutline kind f count ⌝ }
+{
+    let no = Piece::Empty;
+    let end = Tail::Nothing;
+    match kind {
+        Kind::PlayerDiff(cid) => outlined(kind, checked(cid), plan_of(Shape::IntInt, f), no, end),
+        Kind::Finish => outlined(kind, no, plan_of(Shape::Nothing, f), no, end),
+        Kind::TickSkip => outlined(kind, checked(f.first), plan_of(Shape::Int, f), no, end),
+        Kind::PlayerNew(cid) => outlined(kind, Piece::Int(cid), plan_of(Shape::IntInt, f), no, end),
+        Kind::PlayerOld(cid) => outlined(
+            kind,
+            Piece::Int(cid),
+            plan_of(Shape::Nothing, f),
+            no,
+            end,
+        ),
+        Kind::InputDiff => outlined(kind, no, plan_of(Shape::Int, f), no, Tail::Numbers),
+        Kind::InputNew => outlined(kind, no, plan_of(Shape::Int, f), no, Tail::Numbers),
+        Kind::Message => outlined(kind, no, plan_of(Shape::IntData, f), no, end),
+        Kind::Join => outlined(kind, no, plan_of(Shape::Int, f), no, end),
+        Kind::Drop => outlined(kind, no, plan_of(Shape::IntStr, f), no, end),
+        Kind::ConsoleCommand => outlined(
+            kind,
+            no,
+            plan_of(Shape::IntIntStr, f),
+            count_piece(count),
+            Tail::Arguments,
+        ),
+        Kind::Ex => never(),
+    }
+}
+
+// The numbers of an input.
+fn number_piece(ten: [i32; 10], i: usize) -> Piece
+    ensures { λ r. ⌜ r ≡ getD (numberPieces ten) i Piece.Empty ⌝ }
+{
+    if i < 10 {
+        return Piece::Int(ten[i]);
+    }
+    Piece::Empty
+}
+
+// The arguments of a command.
+fn arg_piece(args: Args, i: usize) -> Piece
+    ensures { λ r. ⌜ r ≡ getD (argPieces args) i Piece.Empty ⌝ }
+{
+    let parts = args.parts;
+    if args.count <= i {
+        return Piece::Empty;
+    }
+    if i < 16 {
+        return Piece::Str(parts[i]);
+    }
+    Piece::Empty
+}
+
+// Piece i of a record.
+pub fn piece_at(o: Outline, ten: [i32; 10], args: Args, i: usize) -> Piece
+    ensures { λ r. ⌜ r ≡ getD (piecesOf o ten args) i Piece.Empty ⌝ }
+{
+    let plan = o.plan;
+    let tail = o.tail;
+    match i {
+        0 => o.number,
+        1 => o.client,
+        2 => o.size,
+        3 => plan.one,
+        4 => plan.two,
+        5 => plan.three,
+        6 => plan.four,
+        7 => o.count,
+        _ => match tail {
+            Tail::Nothing => Piece::Empty,
+            Tail::Numbers => number_piece(ten, i - 8),
+            Tail::Arguments => arg_piece(args, i - 8),
         },
-        Layout::Unknown => Plan {
-            first: false,
-            uuid: false,
-            second: false,
-            text: Text::Whole,
-            tail: Tail::Nothing,
-        },
+    }
+}
+
+// No piece stands at this place or past it.
+pub fn past_pieces(tail: Tail) -> usize
+    ensures { λ r. ⌜ r ≡ pastPieces tail ⌝ }
+{
+    match tail {
+        Tail::Nothing => 8,
+        Tail::Numbers => 18,
+        Tail::Arguments => 24,
+    }
+}
+
+// ---- whether they can be written, and the room that they leave
+
+// Whether a part lies inside the bytes lent.
+fn is_inside(s: &[u8], p: Part) -> bool
+    ensures { λ r. ⌜ r ≡ inside (now (s .entry)) p ⌝ }
+{
+    let at = p.at;
+    let len = p.len;
+    if s.len() < at {
+        return false;
+    }
+    if s.len() - at < len {
+        return false;
+    }
+    true
+}
+
+// The room that is left after n bytes, if they can be written.
+fn left_after(left: Left, ok: bool, n: usize) -> Left
+    ensures { λ r. ⌜ r ≡ leftAfter left ok n ⌝ }
+{
+    if !ok {
+        return Left::Unwritable;
+    }
+    match left {
+        Left::Room(room) => {
+            if n <= room {
+                return Left::Room(room - n);
+            }
+            Left::Short
+        }
+        Left::Short => Left::Short,
+        Left::Unwritable => Left::Unwritable,
+    }
+}
+
+// Data has at most 2147483647 bytes.
+fn left_data(left: Left, s: &[u8], p: Part) -> Left
+    ensures { λ r. ⌜ r ≡ leftAfter left (pieceOk (now (s .entry)) (Piece.Data p)) (length (pieceBytes (now (s .entry)) (Piece.Data p))) ⌝ }
+{
+    let b = packer::show(s, p);
+    if 2147483647 < b.len() {
+        return Left::Unwritable;
+    }
+    left_after(
+        left,
+        is_inside(s, p),
+        varint::int_size(b.len() as i32) + b.len(),
+    )
+}
+
+fn left_piece(left: Left, s: &[u8], piece: Piece) -> Left
+    ensures { λ r. ⌜ r ≡ leftAfter left (pieceOk (now (s .entry)) piece) (length (pieceBytes (now (s .entry)) piece)) ⌝ }
+{
+    match piece {
+        Piece::Empty => left,
+        Piece::Never => Left::Unwritable,
+        Piece::Int(value) => left_after(left, true, varint::int_size(value)),
+        Piece::Raw(p) => left_after(left, is_inside(s, p), packer::show(s, p).len()),
+        Piece::Str(p) => {
+            let b = packer::show(s, p);
+            left_after(
+                left_after(left, is_inside(s, p), b.len()),
+                packer::no_zero(b),
+                1,
+            )
+        }
+        Piece::Data(p) => left_data(left, s, p),
+        Piece::Id(k) => left_after(left, k < 20, 16),
+    }
+}
+
+// The room that is left after a record.
+pub fn measure(room: Left, o: Outline, s: &[u8], ten: [i32; 10], args: Args) -> Left
+    ensures { λ r. ⌜ r ≡ leftAfter room (piecesOk (now (s .entry)) (piecesOf o ten args)) (length (piecesBytes (now (s .entry)) (piecesOf o ten args))) ⌝ }
+{
+    let mut left = room;
+    let mut i = 0;
+    let tail = o.tail;
+    let end = past_pieces(tail);
+    while i < end {
+        left = left_piece(left, s, piece_at(o, ten, args, i));
+        i += 1;
+    }
+    left
+}
+
+// ---- the outline of a record
+
+// One of the extensions, in version 2: its number, its identifier, the size of its data, the data. It may have 2147483647 bytes.
+fn named_outline(k: usize, s: &[u8], f: Fields, ten: [i32; 10], args: Args) -> Outline
+    ensures { λ r. ⌜ Outlines V2 (now (s .entry)) (fromFields (Named k) f) ten args r ⌝ }
+{
+    let none = Piece::Empty;
+    let plan = payload_plan(layouts::payload_of(k), f);
+    let data = outline_with(none, none, none, plan);
+    let left = measure(Left::Room(2147483647), data, s, ten, args);
+    match left {
+        Left::Room(room) => outline_with(
+            Piece::Int(Kind::EX),
+            Piece::Id(k),
+            Piece::Int((2147483647 - room) as i32),
+            plan,
+        ),
+        Left::Short => never(),
+        Left::Unwritable => never(),
+    }
+}
+
+// Another extension, in version 2: an identifier that is none of the 20, and data.
+fn other_outline(s: &[u8], f: Fields, ten: [i32; 10], args: Args) -> Outline
+    ensures { λ r. ⌜ Outlines V2 (now (s .entry)) (fromFields Other f) ten args r ⌝ }
+{
+    let none = Piece::Empty;
+    let at = f.uuid;
+    let words = f.text;
+    let part = Part { at, len: 16 };
+    let id = Piece::Raw(part);
+    if ids::find_id(s, at) == 20 {
+        return outline_with(
+            Piece::Int(Kind::EX),
+            none,
+            none,
+            plan_with(id, Piece::Data(words), none, none),
+        );
+    }
+    never()
+}
+
+// An extension has no written form in version 1.
+fn in_version(version: Version, o: Outline) -> Outline
+    ensures { λ r. ⌜ r ≡ inVersion version o ⌝ }
+{
+    match version {
+        Version::V1 => never(),
+        Version::V2 => o,
+    }
+}
+
+// The outline of a record that is taken apart.
+pub fn outline_of(
+    version: Version,
+    tag: Tag,
+    s: &[u8],
+    f: Fields,
+    ten: [i32; 10],
+    args: Args,
+) -> Outline
+    ensures { λ r. ⌜ Outlines version (now (s .entry)) (fromFields tag f) ten args r ⌝ }
+{
+    match tag {
+        Tag::Plain(kind) => kind_outline(kind, f, args.count),
+        Tag::Named(k) => in_version(version, named_outline(k, s, f, ten, args)),
+        Tag::Other => in_version(version, other_outline(s, f, ten, args)),
     }
 }

@@ -1,10 +1,35 @@
 -- `outlines::kind_outline` meets its contract. Assumes nothing.
-use mathlib.Core.Path.{_≡_}
+use mathlib.Core.Path.{_≡_, refl, sym, _∙_, ap}
+use borrow.Author.Needs.{needs}
 use mir.Syntax.{w32}
 use mir.Val.{toZ, ofZ}
-use borrow.Author.Needs.{needs}
 use Rattle.outlines.proofs.kind_outline.Statement.{statement}
 use Rattle.outlines.proofs.kind_outline.Tie as tie
+
+diff : tie.Need-returns
+diff c =
+    let g = c .before .before .before .before .kind .given in
+    let x : toZ w32 (ofZ w32 (g .0 .0)) ≡ g .0 .0 = search needs in
+    rw (g .1) (rw (c .before .plan-of .ensures, c .before .before .checked .ensures, x) at (c .outlined .ensures))
+
+skip : tie.Need-returns-3
+skip c =
+    let g = c .before .before .before .before .enum-told2 .given .1 in
+    let z = c .before .before .before .before .before .before .args .f .first in
+    let x : toZ w32 (ofZ w32 z) ≡ z = search needs in
+    rw g (rw (c .before .plan-of3 .ensures, c .before .before .checked2 .ensures, x, g) at (c .outlined3 .ensures))
+
+new : tie.Need-returns-4
+new c =
+    let g = c .before .before .before .kind2 .given in
+    let x : toZ w32 (ofZ w32 (g .0 .0)) ≡ g .0 .0 = search needs in
+    rw (g .1) (rw (c .before .plan-of4 .ensures, x) at (c .outlined4 .ensures))
+
+old : tie.Need-returns-5
+old c =
+    let g = c .before .before .before .kind3 .given in
+    let x : toZ w32 (ofZ w32 (g .0 .0)) ≡ g .0 .0 = search needs in
+    rw (g .1) (rw (c .before .plan-of5 .ensures, x) at (c .outlined5 .ensures))
 
 pub kind-outline-spec : {M : Type 1} → statement M
 kind-outline-spec =
@@ -12,37 +37,51 @@ kind-outline-spec =
     (tie.spec
     (λ c. search needs)
     (λ c κs. search needs)
-    (λ c. search needs)
+    (λ c κs. search needs)
     (λ c κs. search needs)
     (λ c. search needs)
     (λ c κs. search needs)
-    (λ c. search needs)
     (λ c κs. search needs)
     (λ c. search needs)
     (λ c κs. search needs)
-    (λ c. search needs)
+    (λ c κs. search needs)
     (λ c κs. search needs)
     (λ c. search needs)
     (λ c κs. search needs)
-    (λ c. search needs)
     (λ c κs. search needs)
     (λ c. search needs)
     (λ c κs. search needs)
-    (λ c. search needs)
     (λ c κs. search needs)
     (λ c. search needs)
     (λ c κs. search needs)
+    (λ c κs. search needs)
     (λ c. search needs)
     (λ c κs. search needs)
-    (λ c. let z = c .before .before .kind .given .0 .0 in let x : toZ w32 (ofZ w32 z) ≡ z = search needs in rw (c .before .before .kind .given .1) (rw x at (c .outlined .ensures)))
-    (λ c. rw (c .before .enum-told .given .1) (c .outlined2 .ensures))
-    (λ c. let x : toZ w32 (ofZ w32 (c .before .before .before .args .first)) ≡ c .before .before .before .args .first = search needs in rw (c .before .enum-told2 .given .1) (rw x at (c .outlined3 .ensures)))
-    (λ c. let z = c .before .before .kind2 .given .0 .0 in let x : toZ w32 (ofZ w32 z) ≡ z = search needs in rw (c .before .before .kind2 .given .1) (rw x at (c .of-player .ensures)))
-    (λ c. let z = c .before .before .kind3 .given .0 .0 in let x : toZ w32 (ofZ w32 z) ≡ z = search needs in rw (c .before .before .kind3 .given .1) (rw x at (c .of-player2 .ensures)))
-    (λ c. rw (c .before .enum-told3 .given .1) (c .outlined4 .ensures))
-    (λ c. rw (c .before .enum-told4 .given .1) (c .outlined5 .ensures))
-    (λ c. rw (c .before .enum-told5 .given .1) (c .outlined6 .ensures))
-    (λ c. rw (c .before .enum-told6 .given .1) (c .outlined7 .ensures))
-    (λ c. rw (c .before .enum-told7 .given .1) (c .outlined8 .ensures))
-    (λ c. rw (c .before .enum-told8 .given .1) (c .outlined9 .ensures))
-    (λ c. rw (c .before .enum-told9 .given .1) (c .outlined10 .ensures)))
+    (λ c κs. search needs)
+    (λ c. search needs)
+    (λ c κs. search needs)
+    (λ c κs. search needs)
+    (λ c. search needs)
+    (λ c κs. search needs)
+    (λ c κs. search needs)
+    (λ c. search needs)
+    (λ c κs. search needs)
+    (λ c κs. search needs)
+    (λ c. search needs)
+    (λ c κs. search needs)
+    (λ c κs. search needs)
+    (λ c κs. search needs)
+    (λ c. search needs)
+    (λ c κs. search needs)
+    diff
+    (λ c. rw (c .before .before .enum-told .given .1) (rw (c .before .plan-of2 .ensures, c .before .before .enum-told .given .1) at (c .outlined2 .ensures)))
+    skip
+    new
+    old
+    (λ c. rw (c .before .before .enum-told3 .given .1) (rw (c .before .plan-of6 .ensures, c .before .before .enum-told3 .given .1) at (c .outlined6 .ensures)))
+    (λ c. rw (c .before .before .enum-told4 .given .1) (rw (c .before .plan-of7 .ensures, c .before .before .enum-told4 .given .1) at (c .outlined7 .ensures)))
+    (λ c. rw (c .before .before .enum-told5 .given .1) (rw (c .before .plan-of8 .ensures, c .before .before .enum-told5 .given .1) at (c .outlined8 .ensures)))
+    (λ c. rw (c .before .before .enum-told6 .given .1) (rw (c .before .plan-of9 .ensures, c .before .before .enum-told6 .given .1) at (c .outlined9 .ensures)))
+    (λ c. rw (c .before .before .enum-told7 .given .1) (rw (c .before .plan-of10 .ensures, c .before .before .enum-told7 .given .1) at (c .outlined10 .ensures)))
+    (λ c. rw (c .before .before .before .enum-told8 .given .1) (rw (c .before .before .plan-of11 .ensures, c .before .count-piece .ensures, c .before .before .before .enum-told8 .given .1) at (c .outlined11 .ensures)))
+    (λ c. rw (c .before .enum-told9 .given .1) (c .never .ensures)))

@@ -1,8 +1,8 @@
 -- `outlines::outlined` meets its contract. Assumes nothing.
-use mathlib.Core.Path.{_≡_}
+use mathlib.Core.Path.{_≡_, refl, sym, _∙_, ap}
+use borrow.Author.Needs.{needs}
 use mir.Syntax.{w32}
 use mir.Val.{toZ, ofZ}
-use borrow.Author.Needs.{needs}
 use Rattle.outlines.proofs.outlined.Statement.{statement}
 use Rattle.outlines.proofs.outlined.Tie as tie
 
@@ -11,4 +11,4 @@ outlined-spec =
     tie.close
     (tie.spec
     (λ c κs. search needs)
-    (λ c. let x : toZ w32 (ofZ w32 (c .before .args .number)) ≡ c .before .args .number = search needs in let y : toZ w32 (ofZ w32 (c .before .args .checked)) ≡ c .before .args .checked = search needs in rw (x, y, c .plan-of .ensures)))
+    (λ c. let x : toZ w32 (ofZ w32 (c .number .result)) ≡ c .number .result = search needs in rw (x, c .number .ensures)))
