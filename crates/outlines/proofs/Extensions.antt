@@ -37,29 +37,35 @@ use Rattle.outlines.specs.Outlines.{
   payloadPlan,
   outlineWith,
   unwritable,
-  inVersion,
+  exNumber,
   planPieces,
   piecesOf,
   contentOk,
   contentBytes,
   Outlines,
 }
+use Rattle.outlines.specs.declared.Piece.{Piece}
 use Rattle.outlines.specs.declared.Piece.the-variants.{Empty, Int, Raw, Data, Id}
 use Rattle.outlines.specs.declared.Tail.the-variants.{Nothing}
 use Rattle.outlines.specs.declared.Plan.{Plan}
-use Rattle.outlines.specs.declared.Outline.{Outline}
 use Rattle.outlines.proofs.Tests.{never, always, grouped, one-text, two-parts}
 
--- what can't be written
-never-outlines : (v : Version) (s : List ℕ) (c : Content Part) (ten : List ℤ) (xs : Args) → contentOk v s c ten xs ≡ false
-    → Outlines v s c ten xs unwritable
-never-outlines v s c ten xs e = record { ok = sym e; written = λ t. let q = sym e ∙ t in let z : _≡_ {A = ℕ} 0 1 = cc in absurd (omega arith) }
+module _ (s : List ℕ) (c : Content Part) (ten : List ℤ) (xs : Args) where
+  -- what can't be written
+  never-written : {A : Type 0} (v : Version) → contentOk v s c ten xs ≡ false → contentOk v s c ten xs ≡ true → A
+  never-written v e t = let q = sym e ∙ t in let z : _≡_ {A = ℕ} 0 1 = cc in absurd (omega arith)
 
--- what version 1 lacks
-in-version : (s : List ℕ) (c : Content Part) (ten : List ℤ) (xs : Args) → contentOk V1 s c ten xs ≡ false → (o : Outline)
-    → Outlines V2 s c ten xs o → (v : Version) → Outlines v s c ten xs (inVersion v o)
-in-version s c ten xs e o a V1 = never-outlines V1 s c ten xs e
-in-version s c ten xs e o a V2 = a
+  -- an extension can't in version 1
+  module _ (e : contentOk V1 s c ten xs ≡ false) where
+    never-outlines : contentOk V2 s c ten xs ≡ false → (v : Version) → Outlines v s c ten xs unwritable
+    never-outlines a V1 = record { ok = sym e; written = never-written V1 e }
+    never-outlines a V2 = record { ok = sym a; written = never-written V2 a }
+
+    module _ (client size : Piece) (plan : Plan) where
+      in-version : Outlines V2 s c ten xs (outlineWith (Int (negsuc 10)) client size plan Empty Nothing) → (v : Version)
+          → Outlines v s c ten xs (outlineWith (exNumber v) client size plan Empty Nothing)
+      in-version a V1 = record { ok = sym e; written = never-written V1 e }
+      in-version a V2 = a
 
 module _ (s : List ℕ) (f : Fields) where
   -- ---- the data of an extension: its fields, whether they can be written, their bytes
@@ -131,6 +137,10 @@ module _ (s : List ℕ) (f : Fields) where
 
   module _ (ten : List ℤ) (xs : Args) where
     module _ (k : ℕ) where
+      named-one : contentOk V1 s (fromFields (Named k) f) ten xs ≡ false
+      unfolding contentOk
+      named-one = never (partsInside s (valuesOf (payloadAt k)))
+
       module _ (l : Layout) (e : payloadIs l ≡ payloadAt k) where
         named-ok : contentOk V2 s (fromFields (Named k) f) ten xs ≡ loadOk l && isData (loadBytes l)
         unfolding contentOk
@@ -141,23 +151,22 @@ module _ (s : List ℕ) (f : Fields) where
         named-bytes a =
             ap (exBytes (idAt k)) (sym (layout-bytes l a)) ∙ ap (λ p. exBytes (idAt k) (payloadBytes p (map (mean s) (valuesOf p)))) e
 
-        pub named-outlines : loadOk l ≡ true → length (loadBytes l) ≤ 2147483647
+        named-two : loadOk l ≡ true → length (loadBytes l) ≤ 2147483647
             → Outlines V2 s (fromFields (Named k) f) ten xs
             (outlineWith (Int (negsuc 10)) (Id k) (Int (pos (length (loadBytes l)))) (payloadPlan l f) Empty Nothing)
-        named-outlines a h =
-            let n : contentOk V2 s (fromFields (Named k) f) ten xs ≡ true = named-ok ∙ rw (a, le-leb (length (loadBytes l)) 2147483647 h) in
+        named-two a h =
+            let n : contentOk V2 s (fromFields (Named k) f) ten xs ≡ true =
+            named-ok ∙ rw (a, le-leb (length (loadBytes l)) 2147483647 h) in
             record { ok = rw (known k l e a, a) (sym n); written = λ t. named-bytes a }
 
-        pub bad-load : loadOk l && isData (loadBytes l) ≡ false → Outlines V2 s (fromFields (Named k) f) ten xs unwritable
-        bad-load a = never-outlines V2 s (fromFields (Named k) f) ten xs (named-ok ∙ a)
+        pub named-outlines : loadOk l ≡ true → length (loadBytes l) ≤ 2147483647 → (v : Version)
+            → Outlines v s (fromFields (Named k) f) ten xs
+            (outlineWith (exNumber v) (Id k) (Int (pos (length (loadBytes l)))) (payloadPlan l f) Empty Nothing)
+        named-outlines a h v =
+            in-version s (fromFields (Named k) f) ten xs named-one (Id k) (Int (pos (length (loadBytes l)))) (payloadPlan l f) (named-two a h) v
 
-      named-one : contentOk V1 s (fromFields (Named k) f) ten xs ≡ false
-      unfolding contentOk
-      named-one = never (partsInside s (valuesOf (payloadAt k)))
-
-      pub named-in : (o : Outline) → Outlines V2 s (fromFields (Named k) f) ten xs o → (v : Version)
-          → Outlines v s (fromFields (Named k) f) ten xs (inVersion v o)
-      named-in o a v = in-version s (fromFields (Named k) f) ten xs named-one o a v
+        pub bad-load : loadOk l && isData (loadBytes l) ≡ false → (v : Version) → Outlines v s (fromFields (Named k) f) ten xs unwritable
+        bad-load a v = never-outlines s (fromFields (Named k) f) ten xs named-one (named-ok ∙ a) v
 
     -- ---- another extension
 
@@ -176,18 +185,24 @@ module _ (s : List ℕ) (f : Fields) where
     unfolding contentBytes
     other-bytes = refl
 
-    pub other-outlines : find (shown s (idPart (f .uuid))) ≡ 20
+    other-two : find (shown s (idPart (f .uuid))) ≡ 20
         → Outlines V2 s (fromFields Other f) ten xs
         (outlineWith (Int (negsuc 10)) Empty Empty (planWith (Raw (idPart (f .uuid))) (Data (f .text)) Empty Empty) Empty Nothing)
-    other-outlines e = record {
+    other-two e = record {
       ok =
           sym (two-parts (inside s (idPart (f .uuid))) (inside s (f .text)) (isData (shown s (f .text))))
           ∙ sym (other-ok ∙ rw (eq-eqb (find (shown s (idPart (f .uuid)))) 20 e));
       written = λ t. (simp append-nil) ∙ other-bytes;
     }
 
-    pub known-id : (find (shown s (idPart (f .uuid))) ≡ 20 → ⊥) → Outlines V2 s (fromFields Other f) ten xs unwritable
-    known-id e = never-outlines V2 s (fromFields Other f) ten xs (other-ok ∙ rw (ne-eqb (find (shown s (idPart (f .uuid)))) 20 e) (never inIt))
+    pub other-outlines : find (shown s (idPart (f .uuid))) ≡ 20 → (v : Version)
+        → Outlines v s (fromFields Other f) ten xs
+        (outlineWith (exNumber v) Empty Empty (planWith (Raw (idPart (f .uuid))) (Data (f .text)) Empty Empty) Empty Nothing)
+    other-outlines e v =
+        in-version s (fromFields Other f) ten xs other-one Empty Empty (planWith (Raw (idPart (f .uuid))) (Data (f .text)) Empty Empty)
+        (other-two e) v
 
-    pub other-in : (o : Outline) → Outlines V2 s (fromFields Other f) ten xs o → (v : Version) → Outlines v s (fromFields Other f) ten xs (inVersion v o)
-    other-in o a v = in-version s (fromFields Other f) ten xs other-one o a v
+    pub known-id : (find (shown s (idPart (f .uuid))) ≡ 20 → ⊥) → (v : Version) → Outlines v s (fromFields Other f) ten xs unwritable
+    known-id e v =
+        never-outlines s (fromFields Other f) ten xs other-one
+        (other-ok ∙ rw (ne-eqb (find (shown s (idPart (f .uuid)))) 20 e) (never inIt)) v

@@ -39,6 +39,7 @@ use Rattle.outlines.specs.Outlines.{
   contentBytes,
   Outlines,
 }
+use Rattle.outlines.specs.declared.Tail.the-variants.{Arguments}
 use Rattle.outlines.proofs.Tests.{one-text, command, small-dt, dt-is, ints-ok, ten-writable, ten-written, strings-ok, strings-written}
 
 module _ (s : List ℕ) where
@@ -50,7 +51,7 @@ module _ (s : List ℕ) where
   checked-bytes (pos n) = refl
   checked-bytes (negsuc n) = refl
 
-  count-ok : (n : ℕ) → pieceOk s (countPiece n) ≡ leb n 16
+  count-ok : (n : ℕ) → pieceOk s (countPiece Arguments n) ≡ leb n 16
   count-ok n = by-bool (leb n 16) (λ t. rw t) (λ t. rw t)
 
 module _ (v : Version) (s : List ℕ) (f : Fields) (ten : List ℤ) (xs : Args) (a : SFits w32 (f .first)) (b : SFits w32 (f .second)) (h : length ten ≡ 10) (p : length (xs .parts) ≡ 16) where

@@ -92,8 +92,10 @@ abbrev pub checkedPiece : ℤ → Piece
 checkedPiece (pos n) = Empty
 checkedPiece (negsuc n) = Never
 
-abbrev pub countPiece : ℕ → Piece
-countPiece n = cond (leb n 16) (Int (pos n)) Never
+abbrev pub countPiece : Tail → ℕ → Piece
+countPiece Nothing n = Empty
+countPiece Numbers n = Empty
+countPiece Arguments n = cond (leb n 16) (Int (pos n)) Never
 
 abbrev pub outlineWith : Piece → Piece → Piece → Plan → Piece → Tail → Outline
 outlineWith number client size plan n tail =
@@ -102,26 +104,55 @@ outlineWith number client size plan n tail =
 abbrev pub unwritable : Outline
 unwritable = outlineWith Never Empty Empty noFields Empty Nothing
 
-abbrev pub kindWith : Kind → Piece → Plan → Outline
-kindWith k client plan = outlineWith (Int (kindNumber k)) client Empty plan Empty Nothing
+abbrev pub shapeOf : Kind → Shape
+shapeOf (kinds.PlayerDiff c) = shapes.IntInt
+shapeOf kinds.Finish = shapes.Nothing
+shapeOf kinds.TickSkip = shapes.Int
+shapeOf (kinds.PlayerNew c) = shapes.IntInt
+shapeOf (kinds.PlayerOld c) = shapes.Nothing
+shapeOf kinds.InputDiff = shapes.Int
+shapeOf kinds.InputNew = shapes.Int
+shapeOf kinds.Message = shapes.IntData
+shapeOf kinds.Join = shapes.Int
+shapeOf kinds.Drop = shapes.IntStr
+shapeOf kinds.ConsoleCommand = shapes.IntIntStr
+shapeOf kinds.Ex = shapes.Nothing
+
+abbrev pub tailOf : Kind → Tail
+tailOf (kinds.PlayerDiff c) = Nothing
+tailOf kinds.Finish = Nothing
+tailOf kinds.TickSkip = Nothing
+tailOf (kinds.PlayerNew c) = Nothing
+tailOf (kinds.PlayerOld c) = Nothing
+tailOf kinds.InputDiff = Numbers
+tailOf kinds.InputNew = Numbers
+tailOf kinds.Message = Nothing
+tailOf kinds.Join = Nothing
+tailOf kinds.Drop = Nothing
+tailOf kinds.ConsoleCommand = Arguments
+tailOf kinds.Ex = Nothing
+
+abbrev pub clientPiece : Kind → ℤ → Piece
+clientPiece (kinds.PlayerDiff c) z = checkedPiece c
+clientPiece kinds.Finish z = Empty
+clientPiece kinds.TickSkip z = checkedPiece z
+clientPiece (kinds.PlayerNew c) z = Int c
+clientPiece (kinds.PlayerOld c) z = Int c
+clientPiece kinds.InputDiff z = Empty
+clientPiece kinds.InputNew z = Empty
+clientPiece kinds.Message z = Empty
+clientPiece kinds.Join z = Empty
+clientPiece kinds.Drop z = Empty
+clientPiece kinds.ConsoleCommand z = Empty
+clientPiece kinds.Ex z = Never
 
 abbrev pub kindOutline : Kind → Fields → ℕ → Outline
-kindOutline (kinds.PlayerDiff c) f n = kindWith (kinds.PlayerDiff c) (checkedPiece c) (planOf shapes.IntInt f)
-kindOutline kinds.Finish f n = kindWith kinds.Finish Empty noFields
-kindOutline kinds.TickSkip f n = kindWith kinds.TickSkip (checkedPiece (f .first)) (planOf shapes.Int f)
-kindOutline (kinds.PlayerNew c) f n = kindWith (kinds.PlayerNew c) (Int c) (planOf shapes.IntInt f)
-kindOutline (kinds.PlayerOld c) f n = kindWith (kinds.PlayerOld c) (Int c) noFields
-kindOutline kinds.InputDiff f n = outlineWith (Int (negsuc 4)) Empty Empty (planOf shapes.Int f) Empty Numbers
-kindOutline kinds.InputNew f n = outlineWith (Int (negsuc 5)) Empty Empty (planOf shapes.Int f) Empty Numbers
-kindOutline kinds.Message f n = kindWith kinds.Message Empty (planOf shapes.IntData f)
-kindOutline kinds.Join f n = kindWith kinds.Join Empty (planOf shapes.Int f)
-kindOutline kinds.Drop f n = kindWith kinds.Drop Empty (planOf shapes.IntStr f)
-kindOutline kinds.ConsoleCommand f n = outlineWith (Int (negsuc 9)) Empty Empty (planOf shapes.IntIntStr f) (countPiece n) Arguments
-kindOutline kinds.Ex f n = unwritable
+kindOutline k f n =
+    outlineWith (Int (kindNumber k)) (clientPiece k (f .first)) Empty (planOf (shapeOf k) f) (countPiece (tailOf k) n) (tailOf k)
 
-abbrev pub inVersion : Version → Outline → Outline
-inVersion V1 o = unwritable
-inVersion V2 o = o
+abbrev pub exNumber : Version → Piece
+exNumber V1 = Never
+exNumber V2 = Int (negsuc 10)
 
 abbrev pub numberPieces : List ℤ → List Piece
 numberPieces ten = map Int ten

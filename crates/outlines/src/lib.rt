@@ -1,13 +1,9 @@
 // What a record's written form is: its pieces, one after the other. Whether all of them can be written, and the room that they leave.
 ghost use mathlib.Core.Path.{_≡_};
-ghost use mathlib.Core.Bool.{Bool, true};
-ghost use Prim.Native.Nat.{_≤_};
 ghost use lib.ListN.{length, getD};
 ghost use Rattle.fields.specs.Writing.{inside};
-ghost use Rattle.item.specs.Kinds.{kindNumber};
 ghost use Rattle.item.specs.Contents.{fromFields};
 ghost use Rattle.item.specs.declared.Tag.the-variants.{Named, Other};
-ghost use Rattle.item.specs.declared.Version.the-variants.{V2};
 ghost use Rattle.outlines.specs.Outlines.{
   planWith,
   planOf,
@@ -16,8 +12,11 @@ ghost use Rattle.outlines.specs.Outlines.{
   countPiece,
   outlineWith,
   unwritable,
+  shapeOf,
+  tailOf,
+  clientPiece,
   kindOutline,
-  inVersion,
+  exNumber,
   numberPieces,
   argPieces,
   piecesOf,
@@ -145,14 +144,20 @@ fn checked(value: i32) -> Piece
     Piece::Empty
 }
 
-// The number of arguments, at most 16.
-fn count_piece(count: usize) -> Piece
-    ensures { λ r. ⌜ r ≡ countPiece count ⌝ }
+// The number of arguments, at most 16, where there are any.
+fn count_piece(tail: Tail, count: usize) -> Piece
+    ensures { λ r. ⌜ r ≡ countPiece tail count ⌝ }
 {
-    if 16 < count {
-        return Piece::Never;
+    match tail {
+        Tail::Nothing => Piece::Empty,
+        Tail::Numbers => Piece::Empty,
+        Tail::Arguments => {
+            if 16 < count {
+                return Piece::Never;
+            }
+            Piece::Int(count as i32)
+        }
     }
-    Piece::Int(count as i32)
 }
 
 // A record with nothing behind its fields.
@@ -177,50 +182,78 @@ fn never() -> Outline
     outline_with(Piece::Never, none, none, plan_with(none, none, none, none))
 }
 
-fn outlined(kind: Kind, client: Piece, plan: Plan, count: Piece, tail: Tail) -> Outline
-    ensures { λ r. ⌜ r ≡ outlineWith (Piece.Int (kindNumber kind)) client Piece.Empty plan count tail ⌝ }
+// The fields of a kind.
+fn shape_of(kind: Kind) -> Shape
+    ensures { λ r. ⌜ r ≡ shapeOf kind ⌝ }
 {
-    Outline {
-        number: Piece::Int(kind.number()),
-        client,
-        size: Piece::Empty,
-        plan,
-        count,
-        tail,
+    match kind {
+        Kind::PlayerDiff(_) => Shape::IntInt,
+        Kind::Finish => Shape::Nothing,
+        Kind::TickSkip => Shape::Int,
+        Kind::PlayerNew(_) => Shape::IntInt,
+        Kind::PlayerOld(_) => Shape::Nothing,
+        Kind::InputDiff => Shape::Int,
+        Kind::InputNew => Shape::Int,
+        Kind::Message => Shape::IntData,
+        Kind::Join => Shape::Int,
+        Kind::Drop => Shape::IntStr,
+        Kind::ConsoleCommand => Shape::IntIntStr,
+        Kind::Ex => Shape::Nothing,
     }
 }
 
-// The record of a kind; dt above 2147483647 is negative as an i32.
+// What follows the fields of a kind.
+fn tail_of(kind: Kind) -> Tail
+    ensures { λ r. ⌜ r ≡ tailOf kind ⌝ }
+{
+    match kind {
+        Kind::PlayerDiff(_) => Tail::Nothing,
+        Kind::Finish => Tail::Nothing,
+        Kind::TickSkip => Tail::Nothing,
+        Kind::PlayerNew(_) => Tail::Nothing,
+        Kind::PlayerOld(_) => Tail::Nothing,
+        Kind::InputDiff => Tail::Numbers,
+        Kind::InputNew => Tail::Numbers,
+        Kind::Message => Tail::Nothing,
+        Kind::Join => Tail::Nothing,
+        Kind::Drop => Tail::Nothing,
+        Kind::ConsoleCommand => Tail::Arguments,
+        Kind::Ex => Tail::Nothing,
+    }
+}
+
+// The client that follows a kind's number. A negative client of PlayerDiff has no written form, nor has a dt that is negative as an i32.
+fn client_piece(kind: Kind, first: i32) -> Piece
+    ensures { λ r. ⌜ r ≡ clientPiece kind first ⌝ }
+{
+    match kind {
+        Kind::PlayerDiff(cid) => checked(cid),
+        Kind::Finish => Piece::Empty,
+        Kind::TickSkip => checked(first),
+        Kind::PlayerNew(cid) => Piece::Int(cid),
+        Kind::PlayerOld(cid) => Piece::Int(cid),
+        Kind::InputDiff => Piece::Empty,
+        Kind::InputNew => Piece::Empty,
+        Kind::Message => Piece::Empty,
+        Kind::Join => Piece::Empty,
+        Kind::Drop => Piece::Empty,
+        Kind::ConsoleCommand => Piece::Empty,
+        Kind::Ex => Piece::Never,
+    }
+}
+
+// The record of a kind.
 fn kind_outline(kind: Kind, f: Fields, count: usize) -> Outline
     ensures { λ r. ⌜ r ≡ kindOutline kind f count ⌝ }
 {
-    let no = Piece::Empty;
-    let end = Tail::Nothing;
-    match kind {
-        Kind::PlayerDiff(cid) => outlined(kind, checked(cid), plan_of(Shape::IntInt, f), no, end),
-        Kind::Finish => outlined(kind, no, plan_of(Shape::Nothing, f), no, end),
-        Kind::TickSkip => outlined(kind, checked(f.first), plan_of(Shape::Int, f), no, end),
-        Kind::PlayerNew(cid) => outlined(kind, Piece::Int(cid), plan_of(Shape::IntInt, f), no, end),
-        Kind::PlayerOld(cid) => outlined(
-            kind,
-            Piece::Int(cid),
-            plan_of(Shape::Nothing, f),
-            no,
-            end,
-        ),
-        Kind::InputDiff => outlined(kind, no, plan_of(Shape::Int, f), no, Tail::Numbers),
-        Kind::InputNew => outlined(kind, no, plan_of(Shape::Int, f), no, Tail::Numbers),
-        Kind::Message => outlined(kind, no, plan_of(Shape::IntData, f), no, end),
-        Kind::Join => outlined(kind, no, plan_of(Shape::Int, f), no, end),
-        Kind::Drop => outlined(kind, no, plan_of(Shape::IntStr, f), no, end),
-        Kind::ConsoleCommand => outlined(
-            kind,
-            no,
-            plan_of(Shape::IntIntStr, f),
-            count_piece(count),
-            Tail::Arguments,
-        ),
-        Kind::Ex => never(),
+    let tail = tail_of(kind);
+    Outline {
+        number: Piece::Int(kind.number()),
+        client: client_piece(kind, f.first),
+        size: Piece::Empty,
+        plan: plan_of(shape_of(kind), f),
+        count: count_piece(tail, count),
+        tail,
     }
 }
 
@@ -371,9 +404,26 @@ pub fn measure(room: Left, o: Outline, s: &[u8], ten: [i32; 10], args: Args) -> 
 
 // ---- the outline of a record
 
-// One of the extensions, in version 2: its number, its identifier, the size of its data, the data. It may have 2147483647 bytes.
-fn named_outline(k: usize, s: &[u8], f: Fields, ten: [i32; 10], args: Args) -> Outline
-    ensures { λ r. ⌜ Outlines V2 (now (s .entry)) (fromFields (Named k) f) ten args r ⌝ }
+// The number of an extension, which has no written form in version 1.
+fn ex_number(version: Version) -> Piece
+    ensures { λ r. ⌜ r ≡ exNumber version ⌝ }
+{
+    match version {
+        Version::V1 => Piece::Never,
+        Version::V2 => Piece::Int(Kind::EX),
+    }
+}
+
+// One of the extensions: its number, its identifier, the size of its data, the data. It may have 2147483647 bytes.
+fn named_outline(
+    version: Version,
+    k: usize,
+    s: &[u8],
+    f: Fields,
+    ten: [i32; 10],
+    args: Args,
+) -> Outline
+    ensures { λ r. ⌜ Outlines version (now (s .entry)) (fromFields (Named k) f) ten args r ⌝ }
 {
     let none = Piece::Empty;
     let plan = payload_plan(layouts::payload_of(k), f);
@@ -381,7 +431,7 @@ fn named_outline(k: usize, s: &[u8], f: Fields, ten: [i32; 10], args: Args) -> O
     let left = measure(Left::Room(2147483647), data, s, ten, args);
     match left {
         Left::Room(room) => outline_with(
-            Piece::Int(Kind::EX),
+            ex_number(version),
             Piece::Id(k),
             Piece::Int((2147483647 - room) as i32),
             plan,
@@ -391,9 +441,9 @@ fn named_outline(k: usize, s: &[u8], f: Fields, ten: [i32; 10], args: Args) -> O
     }
 }
 
-// Another extension, in version 2: an identifier that is none of the 20, and data.
-fn other_outline(s: &[u8], f: Fields, ten: [i32; 10], args: Args) -> Outline
-    ensures { λ r. ⌜ Outlines V2 (now (s .entry)) (fromFields Other f) ten args r ⌝ }
+// Another extension: an identifier that is none of the 20, and data.
+fn other_outline(version: Version, s: &[u8], f: Fields, ten: [i32; 10], args: Args) -> Outline
+    ensures { λ r. ⌜ Outlines version (now (s .entry)) (fromFields Other f) ten args r ⌝ }
 {
     let none = Piece::Empty;
     let at = f.uuid;
@@ -402,23 +452,13 @@ fn other_outline(s: &[u8], f: Fields, ten: [i32; 10], args: Args) -> Outline
     let id = Piece::Raw(part);
     if ids::find_id(s, at) == 20 {
         return outline_with(
-            Piece::Int(Kind::EX),
+            ex_number(version),
             none,
             none,
             plan_with(id, Piece::Data(words), none, none),
         );
     }
     never()
-}
-
-// An extension has no written form in version 1.
-fn in_version(version: Version, o: Outline) -> Outline
-    ensures { λ r. ⌜ r ≡ inVersion version o ⌝ }
-{
-    match version {
-        Version::V1 => never(),
-        Version::V2 => o,
-    }
 }
 
 // The outline of a record that is taken apart.
@@ -434,7 +474,7 @@ pub fn outline_of(
 {
     match tag {
         Tag::Plain(kind) => kind_outline(kind, f, args.count),
-        Tag::Named(k) => in_version(version, named_outline(k, s, f, ten, args)),
-        Tag::Other => in_version(version, other_outline(s, f, ten, args)),
+        Tag::Named(k) => named_outline(version, k, s, f, ten, args),
+        Tag::Other => other_outline(version, s, f, ten, args),
     }
 }

@@ -33,14 +33,19 @@ module _ (c : tie.After-known-told) where
 
 returns : tie.Need-returns
 returns c =
-    let a = c .before .before .before .before .before .before .before .before .before .args in
-    let l = c .before .before .before .before .before .before .before .payload-of in
-    let m = 2147483647 - c .before .before .left .given .0 .0 in
-    let z = fits (c .before) in
+    let a = c .before .before .before .before .before .before .before .before .before .before .args in
+    let l = c .before .before .before .before .before .before .before .before .payload-of in
+    let m = 2147483647 - c .before .before .before .left .given .0 .0 in
+    let z = fits (c .before .before) in
     let q : toZ w32 m ≡ pos (length (loadBytes (a .s .now) (a .f) (l .result))) =
     toZ-pos w32 {n = m} (omega arith) ∙ ap pos (omega (arith, z .1 .0, z .1 .1)) in
-    rw (c .outline-with2 .ensures, q, c .before .before .before .before .before .before .payload-plan .ensures)
-    (named-outlines (a .s .now) (a .f) (a .ten) (a .args) (a .k) (l .result) (l .ensures) (z .0) (z .1 .0))
+    rw (
+      c .outline-with2 .ensures,
+      q,
+      c .before .before .before .before .before .before .before .payload-plan .ensures,
+      c .before .ex-number .ensures,
+    )
+    (named-outlines (a .s .now) (a .f) (a .ten) (a .args) (a .k) (l .result) (l .ensures) (z .0) (z .1 .0) (a .version))
 
 returns-2 : tie.Need-returns-2
 returns-2 c =
@@ -50,7 +55,7 @@ returns-2 c =
     let o = loadOk (a .s .now) (a .f) (l .result) in
     let h = too-short 2147483647 n o (sym (measured (c .before .before .before)) ∙ c .before .enum-told .given .1) in
     rw (c .never .ensures)
-    (bad-load (a .s .now) (a .f) (a .ten) (a .args) (a .k) (l .result) (l .ensures) (rw (h .0, lt-leb n 2147483647 (h .1))))
+    (bad-load (a .s .now) (a .f) (a .ten) (a .args) (a .k) (l .result) (l .ensures) (rw (h .0, lt-leb n 2147483647 (h .1))) (a .version))
 
 returns-3 : tie.Need-returns-3
 returns-3 c =
@@ -58,7 +63,7 @@ returns-3 c =
     let l = c .before .before .before .before .before .before .payload-of in
     let n = length (loadBytes (a .s .now) (a .f) (l .result)) in
     let h = not-ok 2147483647 n (loadOk (a .s .now) (a .f) (l .result)) (sym (measured (c .before .before .before)) ∙ c .before .enum-told2 .given .1) in
-    rw (c .never2 .ensures) (bad-load (a .s .now) (a .f) (a .ten) (a .args) (a .k) (l .result) (l .ensures) (rw h))
+    rw (c .never2 .ensures) (bad-load (a .s .now) (a .f) (a .ten) (a .args) (a .k) (l .result) (l .ensures) (rw h) (a .version))
 
 pub named-outline-spec : {M : Type 1} → statement M
 named-outline-spec =
@@ -69,7 +74,8 @@ named-outline-spec =
     (λ c κs. search needs)
     (λ c κs. search needs)
     (λ c. search needs)
-    (λ c. omega (arith, fits c .1 .1))
+    (λ c κs. search needs)
+    (λ c. omega (arith, fits (c .before) .1 .1))
     (λ c. record { sfits = omega arith })
     (λ c κs. search needs)
     (λ c. search needs)
