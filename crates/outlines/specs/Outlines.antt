@@ -32,6 +32,7 @@ use Rattle.outlines.specs.declared.Piece.{Piece}
 use Rattle.outlines.specs.declared.Piece.the-variants.{Empty, Never, Int, Raw, Str, Data, Id}
 use Rattle.outlines.specs.declared.Tail.{Tail}
 use Rattle.outlines.specs.declared.Tail.the-variants.{Nothing, Numbers, Arguments}
+use Rattle.outlines.specs.declared.Form.{Form}
 use Rattle.outlines.specs.declared.Plan.{Plan}
 use Rattle.outlines.specs.declared.Outline.{Outline}
 use Rattle.outlines.specs.declared.Left.{Left}
@@ -104,51 +105,29 @@ outlineWith number client size plan n tail =
 abbrev pub unwritable : Outline
 unwritable = outlineWith Never Empty Empty noFields Empty Nothing
 
-abbrev pub shapeOf : Kind → Shape
-shapeOf (kinds.PlayerDiff c) = shapes.IntInt
-shapeOf kinds.Finish = shapes.Nothing
-shapeOf kinds.TickSkip = shapes.Int
-shapeOf (kinds.PlayerNew c) = shapes.IntInt
-shapeOf (kinds.PlayerOld c) = shapes.Nothing
-shapeOf kinds.InputDiff = shapes.Int
-shapeOf kinds.InputNew = shapes.Int
-shapeOf kinds.Message = shapes.IntData
-shapeOf kinds.Join = shapes.Int
-shapeOf kinds.Drop = shapes.IntStr
-shapeOf kinds.ConsoleCommand = shapes.IntIntStr
-shapeOf kinds.Ex = shapes.Nothing
+abbrev pub formWith : Piece → Shape → Tail → Form
+formWith client shape tail = record { client = client; shape = shape; tail = tail }
 
-abbrev pub tailOf : Kind → Tail
-tailOf (kinds.PlayerDiff c) = Nothing
-tailOf kinds.Finish = Nothing
-tailOf kinds.TickSkip = Nothing
-tailOf (kinds.PlayerNew c) = Nothing
-tailOf (kinds.PlayerOld c) = Nothing
-tailOf kinds.InputDiff = Numbers
-tailOf kinds.InputNew = Numbers
-tailOf kinds.Message = Nothing
-tailOf kinds.Join = Nothing
-tailOf kinds.Drop = Nothing
-tailOf kinds.ConsoleCommand = Arguments
-tailOf kinds.Ex = Nothing
+abbrev pub formOf : Kind → ℤ → Form
+formOf (kinds.PlayerDiff c) z = formWith (checkedPiece c) shapes.IntInt Nothing
+formOf kinds.Finish z = formWith Empty shapes.Nothing Nothing
+formOf kinds.TickSkip z = formWith (checkedPiece z) shapes.Int Nothing
+formOf (kinds.PlayerNew c) z = formWith (Int c) shapes.IntInt Nothing
+formOf (kinds.PlayerOld c) z = formWith (Int c) shapes.Nothing Nothing
+formOf kinds.InputDiff z = formWith Empty shapes.Int Numbers
+formOf kinds.InputNew z = formWith Empty shapes.Int Numbers
+formOf kinds.Message z = formWith Empty shapes.IntData Nothing
+formOf kinds.Join z = formWith Empty shapes.Int Nothing
+formOf kinds.Drop z = formWith Empty shapes.IntStr Nothing
+formOf kinds.ConsoleCommand z = formWith Empty shapes.IntIntStr Arguments
+formOf kinds.Ex z = formWith Never shapes.Nothing Nothing
 
-abbrev pub clientPiece : Kind → ℤ → Piece
-clientPiece (kinds.PlayerDiff c) z = checkedPiece c
-clientPiece kinds.Finish z = Empty
-clientPiece kinds.TickSkip z = checkedPiece z
-clientPiece (kinds.PlayerNew c) z = Int c
-clientPiece (kinds.PlayerOld c) z = Int c
-clientPiece kinds.InputDiff z = Empty
-clientPiece kinds.InputNew z = Empty
-clientPiece kinds.Message z = Empty
-clientPiece kinds.Join z = Empty
-clientPiece kinds.Drop z = Empty
-clientPiece kinds.ConsoleCommand z = Empty
-clientPiece kinds.Ex z = Never
+abbrev pub outlineOf : ℤ → Form → Fields → ℕ → Outline
+outlineOf number form f n =
+    outlineWith (Int number) (form .client) Empty (planOf (form .shape) f) (countPiece (form .tail) n) (form .tail)
 
 abbrev pub kindOutline : Kind → Fields → ℕ → Outline
-kindOutline k f n =
-    outlineWith (Int (kindNumber k)) (clientPiece k (f .first)) Empty (planOf (shapeOf k) f) (countPiece (tailOf k) n) (tailOf k)
+kindOutline k f n = outlineOf (kindNumber k) (formOf k (f .first)) f n
 
 abbrev pub exNumber : Version → Piece
 exNumber V1 = Never

@@ -12,9 +12,8 @@ ghost use Rattle.outlines.specs.Outlines.{
   countPiece,
   outlineWith,
   unwritable,
-  shapeOf,
-  tailOf,
-  clientPiece,
+  formWith,
+  formOf,
   kindOutline,
   exNumber,
   numberPieces,
@@ -54,6 +53,13 @@ pub enum Tail {
     Nothing,
     Numbers,
     Arguments,
+}
+
+// What stands behind a kind's number: its client, its fields, and what follows them.
+pub struct Form {
+    pub client: Piece,
+    pub shape: Shape,
+    pub tail: Tail,
 }
 
 // The fields.
@@ -182,63 +188,36 @@ fn never() -> Outline
     outline_with(Piece::Never, none, none, plan_with(none, none, none, none))
 }
 
-// The fields of a kind.
-fn shape_of(kind: Kind) -> Shape
-    ensures { λ r. ⌜ r ≡ shapeOf kind ⌝ }
+fn form_with(client: Piece, shape: Shape, tail: Tail) -> Form
+    ensures { λ r. ⌜ r ≡ formWith client shape tail ⌝ }
 {
-    match kind {
-        Kind::PlayerDiff(_) => Shape::IntInt,
-        Kind::Finish => Shape::Nothing,
-        Kind::TickSkip => Shape::Int,
-        Kind::PlayerNew(_) => Shape::IntInt,
-        Kind::PlayerOld(_) => Shape::Nothing,
-        Kind::InputDiff => Shape::Int,
-        Kind::InputNew => Shape::Int,
-        Kind::Message => Shape::IntData,
-        Kind::Join => Shape::Int,
-        Kind::Drop => Shape::IntStr,
-        Kind::ConsoleCommand => Shape::IntIntStr,
-        Kind::Ex => Shape::Nothing,
+    Form {
+        client,
+        shape,
+        tail,
     }
 }
 
-// What follows the fields of a kind.
-fn tail_of(kind: Kind) -> Tail
-    ensures { λ r. ⌜ r ≡ tailOf kind ⌝ }
+// The form of a kind whose first number this is. A negative client of PlayerDiff has no written form, nor has a dt that is negative as an
+// i32.
+fn form_of(kind: Kind, first: i32) -> Form
+    ensures { λ r. ⌜ r ≡ formOf kind first ⌝ }
 {
+    let no = Piece::Empty;
+    let end = Tail::Nothing;
     match kind {
-        Kind::PlayerDiff(_) => Tail::Nothing,
-        Kind::Finish => Tail::Nothing,
-        Kind::TickSkip => Tail::Nothing,
-        Kind::PlayerNew(_) => Tail::Nothing,
-        Kind::PlayerOld(_) => Tail::Nothing,
-        Kind::InputDiff => Tail::Numbers,
-        Kind::InputNew => Tail::Numbers,
-        Kind::Message => Tail::Nothing,
-        Kind::Join => Tail::Nothing,
-        Kind::Drop => Tail::Nothing,
-        Kind::ConsoleCommand => Tail::Arguments,
-        Kind::Ex => Tail::Nothing,
-    }
-}
-
-// The client that follows a kind's number. A negative client of PlayerDiff has no written form, nor has a dt that is negative as an i32.
-fn client_piece(kind: Kind, first: i32) -> Piece
-    ensures { λ r. ⌜ r ≡ clientPiece kind first ⌝ }
-{
-    match kind {
-        Kind::PlayerDiff(cid) => checked(cid),
-        Kind::Finish => Piece::Empty,
-        Kind::TickSkip => checked(first),
-        Kind::PlayerNew(cid) => Piece::Int(cid),
-        Kind::PlayerOld(cid) => Piece::Int(cid),
-        Kind::InputDiff => Piece::Empty,
-        Kind::InputNew => Piece::Empty,
-        Kind::Message => Piece::Empty,
-        Kind::Join => Piece::Empty,
-        Kind::Drop => Piece::Empty,
-        Kind::ConsoleCommand => Piece::Empty,
-        Kind::Ex => Piece::Never,
+        Kind::PlayerDiff(cid) => form_with(checked(cid), Shape::IntInt, end),
+        Kind::Finish => form_with(no, Shape::Nothing, end),
+        Kind::TickSkip => form_with(checked(first), Shape::Int, end),
+        Kind::PlayerNew(cid) => form_with(Piece::Int(cid), Shape::IntInt, end),
+        Kind::PlayerOld(cid) => form_with(Piece::Int(cid), Shape::Nothing, end),
+        Kind::InputDiff => form_with(no, Shape::Int, Tail::Numbers),
+        Kind::InputNew => form_with(no, Shape::Int, Tail::Numbers),
+        Kind::Message => form_with(no, Shape::IntData, end),
+        Kind::Join => form_with(no, Shape::Int, end),
+        Kind::Drop => form_with(no, Shape::IntStr, end),
+        Kind::ConsoleCommand => form_with(no, Shape::IntIntStr, Tail::Arguments),
+        Kind::Ex => form_with(Piece::Never, Shape::Nothing, end),
     }
 }
 
@@ -246,12 +225,15 @@ fn client_piece(kind: Kind, first: i32) -> Piece
 fn kind_outline(kind: Kind, f: Fields, count: usize) -> Outline
     ensures { λ r. ⌜ r ≡ kindOutline kind f count ⌝ }
 {
-    let tail = tail_of(kind);
+    let form = form_of(kind, f.first);
+    let client = form.client;
+    let shape = form.shape;
+    let tail = form.tail;
     Outline {
         number: Piece::Int(kind.number()),
-        client: client_piece(kind, f.first),
+        client,
         size: Piece::Empty,
-        plan: plan_of(shape_of(kind), f),
+        plan: plan_of(shape, f),
         count: count_piece(tail, count),
         tail,
     }
