@@ -1,42 +1,84 @@
--- The outline of an extension and the plan of its data write its written form. Assumes nothing.
-use Prim.Native.Nat.{ℕ}
+-- The outline of an extension writes its written form. Assumes nothing.
+use Prim.Native.Nat.{ℕ, _≤_, _<_}
 use mathlib.Core.Path.{_≡_, refl, sym, _∙_, ap}
-use mathlib.Core.Bool.{Bool, true, false, _&&_}
-use mathlib.Core.List.{List, [], _∷_, _++_, map, append-nil, append-assoc}
-use lib.IntN.{ℤ}
+use mathlib.Core.Bool.{Bool, true, false, _&&_, and-eq-true-iff}
+use mathlib.Core.List.{List, [], _∷_, _++_, map, append-nil}
+use native.Mathlib.Omega.{arith}
+use lib.ListN.{length, List·getD-eq-default}
+use lib.Dec.{eqb, ltb}
+use lib.IntN.{ℤ, pos, negsuc}
+use borrow.Author.Tests.{eq-eqb, ne-eqb, le-leb, lt-leb, lt-ltb, ltb-false}
+use Rattle.num.proofs.Cases.{by-bool}
 use Rattle.packer.specs.Parts.{shown}
 use Rattle.packer.specs.Texts.{noZero, isData}
 use Rattle.packer.specs.declared.Part.{Part}
-use Rattle.fields.specs.Fields.{uuid, blob, Value, mean}
+use Rattle.fields.specs.Fields.{Value, mean}
 use Rattle.fields.specs.Writing.{allWritable, writeFields, inside, partsInside}
 use Rattle.fields.specs.declared.Args.{Args}
 use Rattle.shapes.specs.Shapes.{fieldsIn, idPart, valuesIn}
 use Rattle.shapes.specs.declared.Shape.{Shape}
 use Rattle.shapes.specs.declared.Shape.the-variants as shapes
 use Rattle.shapes.specs.declared.Fields.{Fields}
-use Rattle.extensions.specs.Extensions.{Payload, shaped, whole, idAt, payloadAt, find, isUnknown}
-use Rattle.extensions.specs.declared.Extension.{Extension}
-use Rattle.extensions.specs.declared.Found.{Found}
-use Rattle.extensions.specs.declared.Found.the-variants.{Known, Unknown}
+use Rattle.extensions.specs.Extensions.{Extension, Payload, shaped, whole, unknown, count, extensions, noExtension, idAt, payloadAt, find}
+use Rattle.item.specs.Records.{Content}
 use Rattle.item.specs.Contents.{ownPayload}
 use Rattle.item.specs.Taken.{fromFields}
 use Rattle.kinds.specs.declared.Version.{Version}
 use Rattle.kinds.specs.declared.Version.the-variants.{V1, V2}
 use Rattle.item.specs.declared.Tag.the-variants.{Named, Other}
-use Rattle.written.specs.Written.{payloadBytes, exBytes, hasEx, payloadWritable}
-use Rattle.plans.specs.Plans.{planOf, planBytes, planOk}
-use Rattle.plans.specs.declared.Tail.the-variants.{Nothing}
+use Rattle.written.specs.Written.{payloadBytes, exBytes, payloadWritable}
 use Rattle.extensions.specs.Layouts.{payloadIs}
 use Rattle.extensions.specs.declared.Layout.{Layout}
 use Rattle.extensions.specs.declared.Layout.the-variants as layouts
-use Rattle.outlines.specs.Outlines.{otherOutline, payloadPlan, outlineOk, outlineBytes, contentOk, contentBytes}
-use Rattle.outlines.proofs.Tests.{never, always, inside-last, one-text, two-parts}
+use Rattle.outlines.specs.Outlines.{
+  piecesBytes,
+  piecesOk,
+  planWith,
+  planOf,
+  payloadPlan,
+  outlineWith,
+  unwritable,
+  exNumber,
+  planPieces,
+  piecesOf,
+  contentOk,
+  contentBytes,
+  Outlines,
+}
+use Rattle.outlines.specs.declared.Piece.{Piece}
+use Rattle.outlines.specs.declared.Piece.the-variants.{Empty, Int, Raw, Data, Id}
+use Rattle.outlines.specs.declared.Tail.the-variants.{Nothing}
+use Rattle.outlines.specs.declared.Plan.{Plan}
+use Rattle.outlines.proofs.Tests.{never, always, grouped, one-text, two-parts}
 
--- ---- the data of an extension
+module _ (s : List ℕ) (c : Content Part) (ten : List ℤ) (xs : Args) where
+  -- what can't be written
+  never-written : {A : Type 0} (v : Version) → contentOk v s c ten xs ≡ false → contentOk v s c ten xs ≡ true → A
+  never-written v e t = let q = sym e ∙ t in let z : _≡_ {A = ℕ} 0 1 = cc in absurd (omega arith)
 
-module _ (s : List ℕ) (f : Fields) (ten : List ℤ) (xs : Args) where
+  -- an extension can't in version 1
+  module _ (e : contentOk V1 s c ten xs ≡ false) where
+    never-outlines : contentOk V2 s c ten xs ≡ false → (v : Version) → Outlines v s c ten xs unwritable
+    never-outlines a V1 = record { ok = sym e; written = never-written V1 e }
+    never-outlines a V2 = record { ok = sym a; written = never-written V2 a }
+
+    module _ (client size : Piece) (plan : Plan) where
+      in-version : Outlines V2 s c ten xs (outlineWith (Int (negsuc 10)) client size plan Empty Nothing) → (v : Version)
+          → Outlines v s c ten xs (outlineWith (exNumber v) client size plan Empty Nothing)
+      in-version a V1 = record { ok = sym e; written = never-written V1 e }
+      in-version a V2 = a
+
+module _ (s : List ℕ) (f : Fields) where
+  -- ---- the data of an extension: its fields, whether they can be written, their bytes
+
+  abbrev pub loadOk : Layout → Bool
+  loadOk l = piecesOk s (planPieces (payloadPlan l f) [])
+
+  abbrev pub loadBytes : Layout → List ℕ
+  loadBytes l = piecesBytes s (planPieces (payloadPlan l f) [])
+
   shape-ok : (sh : Shape) → partsInside s (valuesIn (fieldsIn sh) f) && allWritable (fieldsIn sh) (map (mean s) (valuesIn (fieldsIn sh) f))
-      ≡ planOk (planOf sh Nothing) s f xs
+      ≡ loadOk (layouts.Shaped sh)
   shape-ok shapes.Nothing = refl
   shape-ok shapes.Int = refl
   shape-ok shapes.IntInt = refl
@@ -48,7 +90,7 @@ module _ (s : List ℕ) (f : Fields) (ten : List ℤ) (xs : Args) where
       rw (always (noZero (shown s (f .text)))) (two-parts (inside s (idPart (f .uuid))) (inside s (f .text)) (noZero (shown s (f .text))))
   shape-ok shapes.IntData = one-text (inside s (f .text)) (isData (shown s (f .text)))
 
-  shape-bytes : (sh : Shape) → writeFields (fieldsIn sh) (map (mean s) (valuesIn (fieldsIn sh) f)) ≡ planBytes (planOf sh Nothing) s f ten xs
+  shape-bytes : (sh : Shape) → writeFields (fieldsIn sh) (map (mean s) (valuesIn (fieldsIn sh) f)) ≡ loadBytes (layouts.Shaped sh)
   shape-bytes shapes.Nothing = refl
   shape-bytes shapes.Int = refl
   shape-bytes shapes.IntInt = refl
@@ -62,57 +104,106 @@ module _ (s : List ℕ) (f : Fields) (ten : List ℤ) (xs : Args) where
   abbrev valuesOf : Payload → List (Value Part)
   valuesOf p = valuesIn (ownPayload p) f ++ []
 
-  module _ (v : Version) where
-    abbrev PayloadOk : Payload → Bool
-    PayloadOk p =
-        partsInside s (valuesOf p)
-        && (hasEx v && (payloadWritable p (map (mean s) (valuesOf p)) && isData (payloadBytes p (map (mean s) (valuesOf p)))))
+  abbrev PayloadOk : Payload → Bool
+  PayloadOk p =
+      partsInside s (valuesOf p) && (payloadWritable p (map (mean s) (valuesOf p)) && isData (payloadBytes p (map (mean s) (valuesOf p))))
 
-    layout-ok : (l : Layout)
-        → PayloadOk (payloadIs l) ≡ hasEx v && (planOk (payloadPlan l) s f xs && isData (planBytes (payloadPlan l) s f ten xs))
-    layout-ok (layouts.Shaped sh) =
-        let vs = valuesIn (fieldsIn sh) f in
-        let ms = map (mean s) vs in
-        rw (append-nil vs)
-        (inside-last (partsInside s vs) (hasEx v) (allWritable (fieldsIn sh) ms) (isData (writeFields (fieldsIn sh) ms))
-        ∙ rw (shape-ok sh, shape-bytes sh))
-    layout-ok layouts.Whole =
-        let i = inside s (f .text) in
-        inside-last (i && true) (hasEx v) true (isData (shown s (f .text))) ∙ rw (always (i && true), append-nil (shown s (f .text)))
+  layout-ok : (l : Layout) → PayloadOk (payloadIs l) ≡ loadOk l && isData (loadBytes l)
+  layout-ok (layouts.Shaped sh) =
+      let vs = valuesIn (fieldsIn sh) f in
+      let ms = map (mean s) vs in
+      rw (append-nil vs)
+      (grouped (partsInside s vs) (allWritable (fieldsIn sh) ms) (isData (writeFields (fieldsIn sh) ms)) ∙ rw (shape-ok sh, shape-bytes sh))
+  layout-ok layouts.Whole = rw (append-nil (shown s (f .text)))
+  layout-ok layouts.Unknown = never (inside s (idPart (f .uuid)) && (inside s (f .text) && true))
 
-  layout-bytes : (l : Layout) → payloadBytes (payloadIs l) (map (mean s) (valuesOf (payloadIs l))) ≡ planBytes (payloadPlan l) s f ten xs
-  layout-bytes (layouts.Shaped sh) = rw (append-nil (valuesIn (fieldsIn sh) f)) (shape-bytes sh)
-  layout-bytes layouts.Whole = rw (append-nil (shown s (f .text)))
+  layout-bytes : (l : Layout) → loadOk l ≡ true → payloadBytes (payloadIs l) (map (mean s) (valuesOf (payloadIs l))) ≡ loadBytes l
+  layout-bytes (layouts.Shaped sh) n = rw (append-nil (valuesIn (fieldsIn sh) f)) (shape-bytes sh)
+  layout-bytes layouts.Whole n = sym (append-nil (shown s (f .text)))
+  layout-bytes layouts.Unknown n = let z : _≡_ {A = ℕ} 0 1 = cc in absurd (omega arith)
 
-  module _ (k : Extension) (l : Layout) (e : payloadIs l ≡ payloadAt k) where
-    pub named-ok : (v : Version) → contentOk v s (fromFields (Named k) f) ten xs
-        ≡ hasEx v && (planOk (payloadPlan l) s f xs && isData (planBytes (payloadPlan l) s f ten xs))
+  -- 20 and above are none of the extensions
+  unknown-load : (l : Layout) → payloadIs l ≡ unknown → loadOk l ≡ true → ⊥
+  unknown-load (layouts.Shaped sh) e a = let z : _≡_ {A = ℕ} 0 1 = cc in omega arith
+  unknown-load layouts.Whole e a = let z : _≡_ {A = ℕ} 0 1 = cc in omega arith
+  unknown-load layouts.Unknown e a = let z : _≡_ {A = ℕ} 0 1 = cc in omega arith
+
+  module _ (k : ℕ) where
+    past-known : 20 ≤ k → payloadAt k ≡ unknown
+    unfolding payloadAt extensions
+    past-known h = ap (λ (x : Extension). x .payload) (List·getD-eq-default extensions noExtension h)
+
+    known : (l : Layout) → payloadIs l ≡ payloadAt k → loadOk l ≡ true → ltb k 20 ≡ true
+    known l e a = by-bool (ltb k 20) (λ t. t) (λ t. absurd (unknown-load l (e ∙ past-known (ltb-false k 20 t)) a))
+
+  module _ (ten : List ℤ) (xs : Args) where
+    module _ (k : ℕ) where
+      named-one : contentOk V1 s (fromFields (Named k) f) ten xs ≡ false
+      unfolding contentOk
+      named-one = never (partsInside s (valuesOf (payloadAt k)))
+
+      module _ (l : Layout) (e : payloadIs l ≡ payloadAt k) where
+        named-ok : contentOk V2 s (fromFields (Named k) f) ten xs ≡ loadOk l && isData (loadBytes l)
+        unfolding contentOk
+        named-ok = ap PayloadOk (sym e) ∙ layout-ok l
+
+        named-bytes : loadOk l ≡ true → exBytes (idAt k) (loadBytes l) ≡ contentBytes s (fromFields (Named k) f) ten xs
+        unfolding contentBytes
+        named-bytes a =
+            ap (exBytes (idAt k)) (sym (layout-bytes l a)) ∙ ap (λ p. exBytes (idAt k) (payloadBytes p (map (mean s) (valuesOf p)))) e
+
+        named-two : loadOk l ≡ true → length (loadBytes l) ≤ 2147483647
+            → Outlines V2 s (fromFields (Named k) f) ten xs
+            (outlineWith (Int (negsuc 10)) (Id k) (Int (pos (length (loadBytes l)))) (payloadPlan l f) Empty Nothing)
+        named-two a h =
+            let n : contentOk V2 s (fromFields (Named k) f) ten xs ≡ true =
+            named-ok ∙ rw (a, le-leb (length (loadBytes l)) 2147483647 h) in
+            record { ok = rw (known k l e a, a) (sym n); written = λ t. named-bytes a }
+
+        pub named-outlines : loadOk l ≡ true → length (loadBytes l) ≤ 2147483647 → (v : Version)
+            → Outlines v s (fromFields (Named k) f) ten xs
+            (outlineWith (exNumber v) (Id k) (Int (pos (length (loadBytes l)))) (payloadPlan l f) Empty Nothing)
+        named-outlines a h v =
+            in-version s (fromFields (Named k) f) ten xs named-one (Id k) (Int (pos (length (loadBytes l)))) (payloadPlan l f) (named-two a h) v
+
+        pub bad-load : loadOk l && isData (loadBytes l) ≡ false → (v : Version) → Outlines v s (fromFields (Named k) f) ten xs unwritable
+        bad-load a v = never-outlines s (fromFields (Named k) f) ten xs named-one (named-ok ∙ a) v
+
+    -- ---- another extension
+
+    abbrev inIt : Bool
+    inIt = inside s (idPart (f .uuid)) && (inside s (f .text) && true)
+
+    other-one : contentOk V1 s (fromFields Other f) ten xs ≡ false
     unfolding contentOk
-    named-ok v = ap (PayloadOk v) (sym e) ∙ layout-ok v l
+    other-one = never inIt
 
-    pub named-bytes : contentBytes s (fromFields (Named k) f) ten xs ≡ exBytes (idAt k) (planBytes (payloadPlan l) s f ten xs)
+    other-ok : contentOk V2 s (fromFields Other f) ten xs ≡ inIt && (eqb (find (shown s (idPart (f .uuid)))) count && isData (shown s (f .text)))
+    unfolding contentOk
+    other-ok = refl
+
+    other-bytes : exBytes (shown s (idPart (f .uuid))) (shown s (f .text)) ≡ contentBytes s (fromFields Other f) ten xs
     unfolding contentBytes
-    named-bytes =
-        ap (λ p. exBytes (idAt k) (payloadBytes p (map (mean s) (valuesOf p)))) (sym e)
-        ∙ ap (exBytes (idAt k)) (layout-bytes l)
+    other-bytes = refl
 
-  -- ---- another extension
+    other-two : find (shown s (idPart (f .uuid))) ≡ 20
+        → Outlines V2 s (fromFields Other f) ten xs
+        (outlineWith (Int (negsuc 10)) Empty Empty (planWith (Raw (idPart (f .uuid))) (Data (f .text)) Empty Empty) Empty Nothing)
+    other-two e = record {
+      ok =
+          sym (two-parts (inside s (idPart (f .uuid))) (inside s (f .text)) (isData (shown s (f .text))))
+          ∙ sym (other-ok ∙ rw (eq-eqb (find (shown s (idPart (f .uuid)))) 20 e));
+      written = λ t. (simp append-nil) ∙ other-bytes;
+    }
 
-  other-by : (v : Version) (x : Found)
-      → partsInside s (valuesIn (uuid ∷ blob ∷ []) f ++ []) && (hasEx v && (isUnknown x && isData (shown s (f .text)))) ≡ outlineOk (otherOutline v x) s f xs
-  other-by V1 x = never (inside s (idPart (f .uuid)) && (inside s (f .text) && true))
-  other-by V2 (Known e) = never (inside s (idPart (f .uuid)) && (inside s (f .text) && true))
-  other-by V2 Unknown = two-parts (inside s (idPart (f .uuid))) (inside s (f .text)) (isData (shown s (f .text)))
+    pub other-outlines : find (shown s (idPart (f .uuid))) ≡ 20 → (v : Version)
+        → Outlines v s (fromFields Other f) ten xs
+        (outlineWith (exNumber v) Empty Empty (planWith (Raw (idPart (f .uuid))) (Data (f .text)) Empty Empty) Empty Nothing)
+    other-outlines e v =
+        in-version s (fromFields Other f) ten xs other-one Empty Empty (planWith (Raw (idPart (f .uuid))) (Data (f .text)) Empty Empty)
+        (other-two e) v
 
-  bytes-by : (v : Version) (x : Found) → exBytes (shown s (idPart (f .uuid))) (shown s (f .text)) ≡ outlineBytes (otherOutline v x) s f ten xs
-  bytes-by V1 x = simp append-nil
-  bytes-by V2 (Known e) = simp append-nil
-  bytes-by V2 Unknown = simp append-nil
-
-  pub other-ok : (v : Version) → contentOk v s (fromFields Other f) ten xs ≡ outlineOk (otherOutline v (find (shown s (idPart (f .uuid))))) s f xs
-  unfolding contentOk
-  other-ok v = other-by v (find (shown s (idPart (f .uuid))))
-
-  pub other-bytes : (v : Version) → contentBytes s (fromFields Other f) ten xs ≡ outlineBytes (otherOutline v (find (shown s (idPart (f .uuid))))) s f ten xs
-  unfolding contentBytes
-  other-bytes v = bytes-by v (find (shown s (idPart (f .uuid))))
+    pub known-id : (find (shown s (idPart (f .uuid))) ≡ 20 → ⊥) → (v : Version) → Outlines v s (fromFields Other f) ten xs unwritable
+    known-id e v =
+        never-outlines s (fromFields Other f) ten xs other-one
+        (other-ok ∙ rw (ne-eqb (find (shown s (idPart (f .uuid)))) 20 e) (never inIt)) v

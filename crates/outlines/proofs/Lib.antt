@@ -1,4 +1,4 @@
 pub mod Tests
+pub mod Pieces
 pub mod Plain
 pub mod Extensions
-pub mod Whole

@@ -16,8 +16,9 @@ use Rattle.packer.specs.Texts.{noZero}
 use Rattle.packer.specs.declared.Part.{Part}
 use Rattle.fields.specs.Fields.{int, num, mean}
 use Rattle.fields.specs.Views.{tenFields}
-use Rattle.fields.specs.Writing.{allNoZero, allWritable, writeFields, inside, allInside}
-use Rattle.plans.specs.Plans.{intsBytes, stringOk, stringsOk}
+use Rattle.fields.specs.Writing.{stringsBytes, allNoZero, allWritable, writeFields, inside, allInside}
+use Rattle.outlines.specs.Outlines.{piecesBytes, piecesOk, numberPieces}
+use Rattle.outlines.specs.declared.Piece.the-variants.{Str}
 
 pub never : (b : Bool) → b && false ≡ false
 never true = refl
@@ -33,11 +34,9 @@ crossed true true x y = refl
 crossed true false true y = refl
 crossed true false false y = refl
 
--- the version is asked first
-pub inside-last : (i h c d : Bool) → i && (h && (c && d)) ≡ h && ((i && c) && d)
-inside-last true h c d = refl
-inside-last false true c d = refl
-inside-last false false c d = refl
+pub grouped : (a b c : Bool) → a && (b && c) ≡ (a && b) && c
+grouped true b c = refl
+grouped false b c = refl
 
 -- a text inside the bytes lent, with a written form
 pub one-text : (i c : Bool) → (i && true) && (c && true) ≡ (i && c) && true
@@ -74,10 +73,13 @@ module _ (s : List ℕ) where
   ints-writable [] = refl
   ints-writable (z ∷ zs) = ints-writable zs
 
-  ints-written : (zs : List ℤ) → writeFields (replicate (length zs) int) (map (mean s) (map num zs)) ≡ intsBytes zs
-  unfolding intsBytes
+  ints-written : (zs : List ℤ) → writeFields (replicate (length zs) int) (map (mean s) (map num zs)) ≡ piecesBytes s (numberPieces zs)
   ints-written [] = refl
   ints-written (z ∷ zs) = rw (ints-written zs)
+
+  pub ints-ok : (zs : List ℤ) → piecesOk s (numberPieces zs) ≡ true
+  ints-ok [] = refl
+  ints-ok (z ∷ zs) = ints-ok zs
 
   module _ (zs : List ℤ) (h : length zs ≡ 10) where
     ten-fields : tenFields ≡ replicate (length zs) int
@@ -86,14 +88,19 @@ module _ (s : List ℕ) where
     pub ten-writable : allWritable tenFields (map (mean s) (map num zs)) ≡ true
     ten-writable = ap (λ fs. allWritable fs (map (mean s) (map num zs))) ten-fields ∙ ints-writable zs
 
-    pub ten-written : writeFields tenFields (map (mean s) (map num zs)) ≡ intsBytes zs
+    pub ten-written : writeFields tenFields (map (mean s) (map num zs)) ≡ piecesBytes s (numberPieces zs)
     ten-written = ap (λ fs. writeFields fs (map (mean s) (map num zs))) ten-fields ∙ ints-written zs
 
--- ---- strings
+  -- ---- strings
 
-pub strings-are : (s : List ℕ) (ps : List Part) → allInside s ps && allNoZero (map (shown s) ps) ≡ stringsOk s ps
-unfolding stringsOk allInside allNoZero
-strings-are s [] = refl
-strings-are s (p ∷ ps) =
-    crossed (inside s p) (allInside s ps) (noZero (shown s p)) (allNoZero (map (shown s) ps))
-    ∙ ap (λ b. stringOk s p && b) (strings-are s ps)
+  pub strings-ok : (ps : List Part) → allInside s ps && allNoZero (map (shown s) ps) ≡ piecesOk s (map Str ps)
+  unfolding allInside allNoZero
+  strings-ok [] = refl
+  strings-ok (p ∷ ps) =
+      crossed (inside s p) (allInside s ps) (noZero (shown s p)) (allNoZero (map (shown s) ps))
+      ∙ ap (λ b. (inside s p && noZero (shown s p)) && b) (strings-ok ps)
+
+  pub strings-written : (ps : List Part) → stringsBytes (map (shown s) ps) ≡ piecesBytes s (map Str ps)
+  unfolding stringsBytes
+  strings-written [] = refl
+  strings-written (p ∷ ps) = rw (strings-written ps)

@@ -7,6 +7,7 @@ use native.Mathlib.Nat.{add-zero}
 use lib.ListN.{length, length-append}
 use Rattle.varint.specs.Written.{wrote, written}
 use Rattle.varint.specs.declared.Wrote.{Wrote}
+use Rattle.varint.specs.declared.Wrote.the-variants.{Past}
 use Rattle.varint.proofs.Writing.{fits-answer}
 use Rattle.packer.proofs.Joined.{written-length, joined, nothing-put}
 use Rattle.record_writer.specs.Puts.{pastOf, HasRoom, Puts}
@@ -16,8 +17,9 @@ pub put-past : (xs : List ℕ) (at : ℕ) (bs : List ℕ) → HasRoom xs at bs �
     → w ≡ wrote xs at bs → ys ≡ written xs at bs → next ≡ pastOf w at → Puts xs at bs next ys
 put-past xs at bs h p q r = (r ∙ ap (λ v. pastOf v at) (p ∙ sym (fits-answer xs at bs h)), q)
 
-pub put-none : (xs : List ℕ) (at : ℕ) → HasRoom xs at [] → Puts xs at [] at xs
-put-none xs at h = (sym (add-zero at), nothing-put xs at (omega arith))
+-- what a call answers that has nothing to put
+pub put-none : (xs : List ℕ) (at : ℕ) → HasRoom xs at [] → (Past at ≡ wrote xs at []) × (xs ≡ written xs at [])
+put-none xs at h = (ap Past (sym (add-zero at)) ∙ fits-answer xs at [] h, nothing-put xs at (omega arith))
 
 -- ---- a loop that puts: what is left makes of the target what all makes of the first one
 
@@ -25,14 +27,8 @@ abbrev pub Rest : List ℕ → ℕ → List ℕ → List ℕ → ℕ → List �
 Rest xs at all ys next rest = (next + length rest ≡ at + length all) × ((length ys ≡ length xs) × (written ys next rest ≡ written xs at all))
 
 module _ (xs : List ℕ) (at : ℕ) (all : List ℕ) (h : HasRoom xs at all) (ys : List ℕ) (next : ℕ) where
-  pub rest-all : (b : List ℕ) → Rest xs at all ys next b → HasRoom ys next b
-  rest-all b r = omega (arith, r .0, r .1 .0)
-
   pub rest-done : Rest xs at all ys next [] → Puts xs at all next ys
   rest-done r = (omega (arith, r .0), nothing-put ys next (omega (arith, r .0, r .1 .0)) ∙ r .1 .1)
-
-  pub rest-last : (b : List ℕ) → Rest xs at all ys next b → {m : ℕ} {zs : List ℕ} → Puts ys next b m zs → Puts xs at all m zs
-  rest-last b r p = (p .0 ∙ r .0, p .1 ∙ r .1 .1)
 
   module _ (a b : List ℕ) (r : Rest xs at all ys next (a ++ b)) where
     pub rest-room : HasRoom ys next a

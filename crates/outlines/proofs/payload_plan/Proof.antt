@@ -1,5 +1,5 @@
 -- `outlines::payload_plan` meets its contract. Assumes nothing.
-use mathlib.Core.Path.{_≡_}
+use mathlib.Core.Path.{_≡_, refl, sym, _∙_, ap}
 use borrow.Author.Needs.{needs}
 use Rattle.outlines.proofs.payload_plan.Statement.{statement}
 use Rattle.outlines.proofs.payload_plan.Tie as tie
@@ -11,5 +11,9 @@ payload-plan-spec =
     (λ c. search needs)
     (λ c κs. search needs)
     (λ c. search needs)
+    (λ c κs. search needs)
+    (λ c. search needs)
+    (λ c κs. search needs)
     (λ c. rw (c .before .before .layout .given .1) (c .plan-of .ensures))
-    (λ c. rw (c .enum-told .given .1)))
+    (λ c. rw (c .before .enum-told .given .1) (c .plan-with .ensures))
+    (λ c. rw (c .before .enum-told2 .given .1) (c .plan-with2 .ensures)))

@@ -1,38 +1,60 @@
 -- `record_writer::write_outline` meets its contract. Assumes nothing.
+use Prim.Native.Nat.{ℕ}
 use mathlib.Core.Path.{_≡_, refl, sym, _∙_, ap}
-use mathlib.Core.Bool.{true, false}
+use mathlib.Core.Bool.{Bool}
+use mathlib.Core.List.{List}
 use borrow.Author.Needs.{needs}
-use borrow.Author.Tests.{not-true, not-false}
-use lib.Signed.{nonNeg}
-use mir.Syntax.{w32}
-use mir.Val.{SFits}
-use Rattle.num.proofs.Signs.{below-zero, not-below-zero}
+use lib.ListN.{length}
+use Rattle.packer.proofs.Joined.{put-answer}
+use Rattle.outlines.specs.Outlines.{piecesOf, piecesOk, piecesBytes, leftAfter}
+use Rattle.record_writer.specs.Puts.{roomAt, Ready}
+use Rattle.record_writer.proofs.Room.{has-room, no-room, no-form}
 use Rattle.record_writer.proofs.write_outline.Statement.{statement}
 use Rattle.record_writer.proofs.write_outline.Tie as tie
 
+abbrev ok : tie.Start → Bool
+ok c = piecesOk (c .args .s .now) (piecesOf (c .args .o) (c .args .ten) (c .args .args))
+
+abbrev all : tie.Start → List ℕ
+all c = piecesBytes (c .args .s .now) (piecesOf (c .args .o) (c .args .ten) (c .args .args))
+
+-- the room that is left
+measured : (c : tie.After-measure) → let d = c .before .before .before .before in
+    c .measure .result ≡ leftAfter (roomAt (length (d .args .out .now)) (d .args .at)) (ok d) (length (all d))
+measured c = rw (c .before .room-at .ensures) at (c .measure .ensures)
+
+ready : (c : tie.After-enum-told) → let d = c .before .before .before .before .before .before in Ready (ok d) (d .args .out .now) (d .args .at) (all d)
+ready c =
+    let d = c .before .before .before .before .before .before in
+    has-room (d .args .out .now) (d .args .at) (ok d) (all d) _ (measured (c .before .before)) _ (c .enum-told .given .1)
+
 returns : tie.Need-returns
 returns c =
-    let z = c .before .before .before .before .before .args .o .checked in
-    let f : SFits w32 z = search needs in
-    let e : nonNeg z ≡ false = ap nonNeg (below-zero z f (c .if1 .taken)) in
-    rw e (refl, refl)
-
-natural : (c : tie.Else1) → nonNeg (c .before .before .before .before .before .args .o .checked) ≡ true
-natural c =
-    let z = c .before .before .before .before .before .args .o .checked in
-    let f : SFits w32 z = search needs in
-    ap nonNeg (not-below-zero z f (c .if1 .left))
+    let d = c .before .before .before .before .before .before .before .before .before .before in
+    let r = ready (c .before .before .before .before) in
+    rw (r .0) (put-answer (d .args .out .now) (d .args .at) (all d) (r .1) _ _ (c .before .before .put-pieces .ensures))
 
 returns-2 : tie.Need-returns-2
-returns-2 c = rw (natural (c .before .before), sym (c .before .plan-ok .ensures) ∙ not-true _ (c .if2 .taken)) (refl, refl)
-
-write-fields-requires : tie.Need-write-fields-requires
-write-fields-requires c κs = sym (c .before .before .plan-ok .ensures) ∙ not-false _ (c .before .if2 .left)
+returns-2 c =
+    let d = c .before .before .before .before .before .before in
+    no-room (d .args .out .now) (d .args .at) (ok d) (all d) _ (measured (c .before .before)) (c .enum-told2 .given .1)
 
 returns-3 : tie.Need-returns-3
 returns-3 c =
-    let d = c .before .before .before .before in
-    rw (natural (d .before .before), sym (d .before .plan-ok .ensures) ∙ not-false _ (d .if2 .left)) (c .before .before .write-fields .ensures)
+    let d = c .before .before .before .before .before .before in
+    no-form (d .args .out .now) (d .args .at) (ok d) (all d) _ (measured (c .before .before)) (c .enum-told3 .given .1)
 
 pub write-outline-spec : {M : Type 1} → statement M
-write-outline-spec = tie.close (tie.spec returns (λ c κs. search needs) returns-2 write-fields-requires (λ c. search needs) returns-3)
+write-outline-spec =
+    tie.close
+    (tie.spec
+    (λ c κs. search needs)
+    (λ c κs. search needs)
+    (λ c. search needs)
+    (λ c κs. ready (c .before))
+    (λ c. search needs)
+    (λ c. search needs)
+    (λ c. search needs)
+    returns
+    returns-2
+    returns-3)
