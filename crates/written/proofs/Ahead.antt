@@ -1,5 +1,6 @@
 -- What is read ends at or past the place where it begins, an integer past it. Assumes nothing.
 use Prim.Native.Nat.{ℕ, zero, suc, _+_, _≤_, _<_}
+use mathlib.Core.Bool.{Bool, true, false, cond}
 use mathlib.Core.List.{List, [], _∷_, _++_}
 use native.Mathlib.Omega.{arith}
 use lib.Dec.{leb, ltb, eqb}
@@ -41,17 +42,19 @@ use Rattle.fields.specs.Fields.{
   andThen,
   readFields,
 }
-use Rattle.item.specs.Kinds.{withClient, extension, kindOf, afterNumber, readKind}
+use Rattle.item.specs.Kinds.{withClient, kindOf, afterNumber, readKind}
 use Rattle.item.specs.Extensions.{Payload, shaped, whole, unknown, find, payloadAt}
-use Rattle.item.specs.Records.{Rest, fields, Content, asContent, upTo, ofPayload, afterData, afterId, readEx, readAs, restOf, readRest}
-use Rattle.item.specs.Records as records
+use Rattle.item.specs.Records.{Rest, fields, extension, Content, asContent, upTo, ofPayload, afterData, afterId, readEx, readAs, restOf, readRest}
 use Rattle.item.specs.declared.Version.{Version}
-use Rattle.item.specs.declared.Version.the-variants.{V1, V2}
 use Rattle.item.specs.declared.Kind.{Kind}
-use Rattle.item.specs.declared.Kind.the-variants.{PlayerNew, PlayerOld}
 use Rattle.item.specs.declared.Tag.{Tag}
 use Rattle.item.specs.declared.Tag.the-variants.{Named}
-use Rattle.state.proofs.Every.{by-cond}
+use Rattle.written.proofs.KindLaws.{Sort, alone, player, none, sort-of}
+
+-- both things that a test picks from
+either : {A : Type 0} (P : A → Type 0) (b : Bool) {x y : A} → P x → P y → P (cond b x y)
+either P true p q = p
+either P false p q = q
 
 -- ---- integers and parts
 
@@ -67,8 +70,8 @@ from-past : (s : List ℕ) (at k sign n : ℕ) → IntPast (at + k) (readFrom s 
 unfolding readFrom
 from-past [] at k sign n = tt
 from-past (b ∷ s) at k sign n =
-    by-cond (IntPast (at + k)) (isLast k b) (λ _. omega arith)
-    (λ _. int-weaker (at + k) (at + (k + 1)) (readFrom s at (k + 1) sign (n + amount k b)) (omega arith) (from-past s at (k + 1) sign (n + amount k b)))
+    either (IntPast (at + k)) (isLast k b) (omega arith)
+    (int-weaker (at + k) (at + (k + 1)) (readFrom s at (k + 1) sign (n + amount k b)) (omega arith) (from-past s at (k + 1) sign (n + amount k b)))
 
 int-past : (s : List ℕ) (at : ℕ) → IntPast at (readInt s at)
 unfolding readInt
@@ -86,12 +89,12 @@ part-weaker a b parts.RunsOut h q = tt
 
 raw-past : (n : ℕ) (s : List ℕ) (at : ℕ) → PartPast at (readRaw n s at)
 unfolding readRaw
-raw-past n s at = by-cond (PartPast at) (leb (at + n) (length s)) (λ _. omega arith) (λ _. tt)
+raw-past n s at = either (PartPast at) (leb (at + n) (length s)) (omega arith) tt
 
 string-from : (s : List ℕ) (at n : ℕ) → PartPast at (stringFrom s at n)
 unfolding stringFrom
 string-from [] at n = tt
-string-from (b ∷ s) at n = by-cond (PartPast at) (eqb b 0) (λ _. omega arith) (λ _. string-from s at (n + 1))
+string-from (b ∷ s) at n = either (PartPast at) (eqb b 0) (omega arith) (string-from s at (n + 1))
 
 string-past : (s : List ℕ) (at : ℕ) → PartPast at (readString s at)
 unfolding readString
@@ -144,7 +147,7 @@ weaker a b (refused r) h p = tt
 one-arg : (at : ℕ) (x : PartRead) (had : List Part) (k : List Part → ℕ → Reading (List Part)) → PartPast at x
     → ((ps : List Part) (n : ℕ) → Past n (k ps n)) → Past at (oneArg x had k)
 one-arg at (parts.Got p next) had k h f =
-    by-cond (Past at) (ltb (length had) 16) (λ _. weaker at next (k (had ++ p ∷ []) next) h (f (had ++ p ∷ []) next)) (λ _. tt)
+    either (Past at) (ltb (length had) 16) (weaker at next (k (had ++ p ∷ []) next) h (f (had ++ p ∷ []) next)) tt
 one-arg at parts.RunsOut had k h f = tt
 
 args-from : (n : ℕ) (s : List ℕ) (had : List Part) (at : ℕ) → Past at (argsFrom n s had at)
@@ -218,7 +221,7 @@ after-id s at parts.RunsOut h = tt
 as-past : (s : List ℕ) (k : Kind) (r : Rest) (at : ℕ) → Past at (readAs s k r at)
 unfolding readEx
 as-past s k (fields fs gs) at = content-past at _ (readFields (fs ++ gs) s at) (fields-past (fs ++ gs) s at)
-as-past s k records.extension at = after-id s at (readRaw 16 s at) (raw-past 16 s at)
+as-past s k extension at = after-id s at (readRaw 16 s at) (raw-past 16 s at)
 
 pub rest-past : (k : Kind) (s : List ℕ) (at : ℕ) → Past at (readRest k s at)
 unfolding readRest
@@ -228,27 +231,13 @@ client-past : (at : ℕ) (make : ℤ → Kind) (x : IntRead) → IntPast at x �
 client-past at make (ints.Got c next r) h = omega arith
 client-past at make ints.RunsOut h = tt
 
-extension-past : (v : Version) (at : ℕ) → Past at (extension v at)
-extension-past V1 at = tt
-extension-past V2 at = omega arith
-
-kind-of : (v : Version) (s : List ℕ) (z : ℤ) (at : ℕ) → Past at (kindOf v s z at)
-kind-of v s (pos c) at = omega arith
-kind-of v s (negsuc zero) at = omega arith
-kind-of v s (negsuc (suc zero)) at = omega arith
-kind-of v s (negsuc (suc (suc zero))) at = client-past at PlayerNew (readInt s at) (int-past s at)
-kind-of v s (negsuc (suc (suc (suc zero)))) at = client-past at PlayerOld (readInt s at) (int-past s at)
-kind-of v s (negsuc (suc (suc (suc (suc zero))))) at = omega arith
-kind-of v s (negsuc (suc (suc (suc (suc (suc zero)))))) at = omega arith
-kind-of v s (negsuc (suc (suc (suc (suc (suc (suc zero))))))) at = omega arith
-kind-of v s (negsuc (suc (suc (suc (suc (suc (suc (suc zero)))))))) at = omega arith
-kind-of v s (negsuc (suc (suc (suc (suc (suc (suc (suc (suc zero))))))))) at = omega arith
-kind-of v s (negsuc (suc (suc (suc (suc (suc (suc (suc (suc (suc zero)))))))))) at = omega arith
-kind-of v s (negsuc (suc (suc (suc (suc (suc (suc (suc (suc (suc (suc zero))))))))))) at = extension-past v at
-kind-of v s (negsuc (suc (suc (suc (suc (suc (suc (suc (suc (suc (suc (suc n)))))))))))) at = tt
+kind-of : (v : Version) (s : List ℕ) (z : ℤ) (at : ℕ) → Sort v z → Past at (kindOf v s z at)
+kind-of v s z at (alone k x is) = rw (is s at) (omega arith)
+kind-of v s z at (player make x r is) = rw (is s at) (client-past at make (readInt s at) (int-past s at))
+kind-of v s z at (none r is) = rw (is s at) tt
 
 after-number : (v : Version) (s : List ℕ) (at : ℕ) (x : IntRead) → IntPast at x → Past (at + 1) (afterNumber v s x)
-after-number v s at (ints.Got z next r) h = weaker (at + 1) next (kindOf v s z next) (omega arith) (kind-of v s z next)
+after-number v s at (ints.Got z next r) h = weaker (at + 1) next (kindOf v s z next) (omega arith) (kind-of v s z next (sort-of v z))
 after-number v s at ints.RunsOut h = tt
 
 -- a kind uses a byte at least

@@ -1,0 +1,4 @@
+pub mod Singles
+pub mod Ranks
+pub mod Runs
+pub mod Theorems
