@@ -1,3 +1,4 @@
+pub mod Slims
 pub mod Singles
 pub mod Ranks
 pub mod Runs

@@ -11,7 +11,7 @@ use borrow.Author.Tests.{leb-true, leb-false}
 use Rattle.num.proofs.Cases.{by-bool}
 use Rattle.item.specs.Said.{Said, gives, more, finish, refuses}
 use Rattle.state.specs.State.{Memory, tenOf}
-use Rattle.state.specs.Reading.{Event, Step, sums, readCall, readerAfter}
+use Rattle.state.specs.Reading.{Event, Step, sums, readerAfter}
 use Rattle.state.specs.Laws.{usedIn}
 use Rattle.state.specs.Acts.{Act, ReadAct}
 use Rattle.state.specs.Acts as act
@@ -39,7 +39,7 @@ use Rattle.calls.specs.Calls.{
   along,
   enough,
 }
-use Rattle.calls.specs.Laws.{lastFirst, IsList, RunsAreLists, joined, RunsSplit, FewEvents, TensBeside, RunTens, Within, RunWithin, EnoughCalls, EventsOfFew}
+use Rattle.calls.specs.Laws.{lastFirst, IsList, RunsAreLists, joined, RunsSplit, FewEvents, TensBeside, RunTens, Within, EventsOfFew}
 use Rattle.calls.proofs.Singles.{uses-within, call-within}
 use Rattle.calls.proofs.Ranks.{rank, rank-le, call-falls}
 

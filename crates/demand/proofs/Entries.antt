@@ -1,48 +1,20 @@
 -- Entries: they stay good where one is changed, and a change is taken back. Assumes nothing.
 use Prim.Native.Nat.{ℕ, zero, suc, _+_, _<_}
-use mathlib.Core.Path.{_≡_, _∙_}
+use mathlib.Core.Path.{_≡_}
 use mathlib.Core.Bool.{Bool, true, false, not, cond, _&&_}
 use mathlib.Core.List.{List, [], _∷_}
 use native.Mathlib.Omega.{arith}
-use native.Mathlib.Decide.{ℕ-discrete}
-use lib.ListN.{length, getD, set, length-set}
-use lib.Seq.{getD-set-same, getD-set-other, set-getD, set-set}
+use lib.ListN.{length, getD, set}
+use lib.Seq.{getD-set-same, set-getD, set-set}
 use lib.Dec.{ltb, eqb}
 use lib.IntN.{ℤ, pos}
 use borrow.Author.Tests.{eqb-true, lt-ltb}
-use Rattle.num.proofs.Cases.{by-eq}
-use Rattle.state.specs.State.{
-  same,
-  present,
-  xOf,
-  yOf,
-  withPlayer,
-  moved,
-  holds,
-  tenOf,
-  putTen,
-  withInput,
-  goodEntry,
-  goodPlayer,
-  goodPlayers,
-  tenZeros,
-  goodInput,
-  goodInputs,
-  goodEntries,
-}
+use Rattle.state.specs.State.{same, present, xOf, yOf, withPlayer, moved, holds, tenOf, putTen, withInput, goodPlayer, goodPlayers, tenZeros, goodInput, goodInputs, goodEntries}
 use Rattle.state.specs.Laws.{Sizes}
 use Rattle.state.specs.declared.Entries.{Entries}
 use Rattle.back.specs.Back.{sameAll, presentAt, formerInput}
 use Rattle.demand.specs.Demand.{players}
-use Rattle.demand.proofs.Tests.{
-  and-true,
-  and-both,
-  same-refl,
-  same-true,
-  same-all-refl,
-  every-at,
-  blank,
-}
+use Rattle.demand.proofs.Tests.{and-true, same-refl, same-true, same-all-refl, every-at, blank}
 use Rattle.demand.proofs.Ten.{ten-zeros, ten-put, put-back}
 
 module _ (e : Entries) (z : Sizes e) (c : ℕ) (h : c < 128) where

@@ -1,6 +1,6 @@
 -- The ten numbers of a client among the 1280: put in, got back, the others not touched. Assumes nothing.
 use Prim.Native.Nat.{ℕ, zero, suc, _+_, _*_, _-_, _≤_, _<_}
-use mathlib.Core.Path.{_≡_, refl, sym, _∙_, ap}
+use mathlib.Core.Path.{_≡_, refl, sym, _∙_}
 use mathlib.Core.Bool.{true}
 use mathlib.Core.List.{List, [], _∷_, map}
 use native.Mathlib.Omega.{arith}
@@ -10,7 +10,7 @@ use lib.Seq.{getD-set-same, getD-set-other, ext-getD}
 use lib.IntN.{ℤ, pos}
 use Rattle.num.proofs.Cases.{by-eq}
 use Rattle.fields.specs.Views.{zeros}
-use Rattle.state.specs.State.{same, tenOf, puts, putTen, zeroAt, tenZeros}
+use Rattle.state.specs.State.{tenOf, puts, putTen, zeroAt, tenZeros}
 use Rattle.demand.proofs.Tests.{same-true, every-at}
 
 -- n places from k on

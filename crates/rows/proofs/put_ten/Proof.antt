@@ -1,4 +1,4 @@
--- `many::put_ten` meets its contract. Assumes nothing.
+-- `rows::put_ten` meets its contract. Assumes nothing.
 use Prim.Native.Nat.{_+_, _-_, _≤_}
 use mathlib.Core.Path.{_≡_, refl, sym, ap, _∙_}
 use native.Mathlib.Omega.{arith}
@@ -10,9 +10,9 @@ use mir.Syntax.{w32}
 use mir.Val.{toZ, ofZ}
 use borrow.Author.Needs.{needs}
 use Rattle.state.proofs.Numbers.{element}
-use Rattle.many.proofs.Puts.{put-pasted}
-use Rattle.many.proofs.put_ten.Statement.{statement}
-use Rattle.many.proofs.put_ten.Tie as tie
+use Rattle.rows.proofs.Puts.{put-pasted}
+use Rattle.rows.proofs.put_ten.Statement.{statement}
+use Rattle.rows.proofs.put_ten.Tie as tie
 
 abbrev Inv-loop : tie.InvT-loop
 Inv-loop tens₀ at ten k₀ tens k = (k ≤ 10) × ((length tens ≡ length tens₀) × (tens ≡ paste tens₀ at ten k))

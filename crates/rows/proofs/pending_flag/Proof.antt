@@ -1,7 +1,7 @@
--- `many::pending_flag` meets its contract. Assumes nothing.
+-- `rows::pending_flag` meets its contract. Assumes nothing.
 use borrow.Author.Needs.{needs}
-use Rattle.many.proofs.pending_flag.Statement.{statement}
-use Rattle.many.proofs.pending_flag.Tie as tie
+use Rattle.rows.proofs.pending_flag.Statement.{statement}
+use Rattle.rows.proofs.pending_flag.Tie as tie
 
 returns : tie.Need-returns
 returns c = rw (c .enum-told2 .given .1)

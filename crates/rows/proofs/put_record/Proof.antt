@@ -1,4 +1,4 @@
--- `many::put_record` meets its contract. Assumes nothing.
+-- `rows::put_record` meets its contract. Assumes nothing.
 use mathlib.Core.Path.{_≡_, sym, _∙_}
 use mir.Syntax.{w32}
 use mir.Val.{toZ, ofZ}
@@ -6,8 +6,8 @@ use Rattle.item.specs.Contents.{itemOf, cidOf}
 use Rattle.item.specs.declared.Cid.the-variants.{Of, NoCid}
 use borrow.Author.Needs.{needs}
 use Rattle.state.proofs.Numbers.{back}
-use Rattle.many.proofs.put_record.Statement.{statement}
-use Rattle.many.proofs.put_record.Tie as tie
+use Rattle.rows.proofs.put_record.Statement.{statement}
+use Rattle.rows.proofs.put_record.Tie as tie
 
 returns : tie.Need-returns
 returns c =

@@ -3,12 +3,15 @@ use Prim.Native.Nat.{ℕ, zero, suc, _+_, _*_, _≤_}
 use mathlib.Core.Path.{_≡_, refl, sym, _∙_, ap}
 use mathlib.Core.List.{List, [], _∷_, _++_, append-assoc}
 use native.Mathlib.Omega.{arith}
-use lib.ListN.{length, take, drop, length-append, length-drop, take-append-drop}
+use lib.ListN.{length, take, drop, length-append, take-append-drop}
 use lib.Seq.{length-take-le, take-nil, take-take, take-append-le, drop-append-le, take-append-seam, drop-at, take-at}
 use lib.IntN.{ℤ}
 use Rattle.state.specs.Reading.{Event, tickStart, tickEnd, playerNew, playerChange, playerOld, input, other}
-use Rattle.many.specs.Many.{Seen, eventRow, rowOf, eventTens, tensOf, put, rowsFrom, tensFrom}
-use Rattle.replayer.specs.Rows.{AllTold}
+use Rattle.calls.specs.Calls.{Seen}
+use Rattle.calls.specs.Laws.{TensBeside}
+use Rattle.rows.specs.Rows.{eventRow, rowOf, eventTens, tensOf, put, rowsFrom, tensFrom}
+use Rattle.rows.specs.Stores.{AllInRows}
+use Rattle.rows.proofs.Puts.{put-length}
 
 drop-take : (a b : ℕ) (l : List ℤ) → drop a (take (a + b) l) ≡ take b (drop a l)
 drop-take zero b l = let q : 0 + b ≡ b = omega arith in rw q
@@ -20,11 +23,6 @@ drop-take (suc a) b (x ∷ l) = let q : suc a + b ≡ suc (a + b) = omega arith 
 module _ (mem : List ℤ) (at : ℕ) (ns : List ℤ) (fits : at + length ns ≤ length mem) where
   front : length (take at mem) ≡ at
   front = length-take-le at mem (omega arith)
-
-  put-length : length (put mem at ns) ≡ length mem
-  unfolding put
-  put-length =
-      omega (arith, length-append (take at mem) (ns ++ drop (at + length ns) mem), length-append ns (drop (at + length ns) mem), front, length-drop (at + length ns) mem)
 
   put-before : take at (put mem at ns) ≡ take at mem
   unfolding put
@@ -97,11 +95,6 @@ module _ (f : Seen → List ℤ) (k : ℕ) where
 
 -- ---- rows and tens
 
--- each event has ten numbers and ten former ones beside it
-unfoldable pub Tens : List Seen → Type 0
-Tens [] = Unit {0}
-Tens (x ∷ xs) = ((length (x .input) ≡ 10) × (length (x .former) ≡ 10)) × Tens xs
-
 event-row-length : (e : Event) (n p : ℤ) → length (eventRow e n p) ≡ 8
 event-row-length (tickStart t) n p = refl
 event-row-length (tickEnd t) n p = refl
@@ -124,16 +117,16 @@ event-tens-le (playerOld c x y) ten former h k = omega arith
 event-tens-le (input c held) ten former h k = omega (arith, length-append ten former)
 event-tens-le (other r) ten former h k = omega arith
 
-tens-le : (x : Seen) → length (x .input) ≡ 10 → length (x .former) ≡ 10 → length (tensOf x) ≤ 20
+tens-le : (x : Seen) → length (x .ten) ≡ 10 → length (x .former) ≡ 10 → length (tensOf x) ≤ 20
 unfolding tensOf
-tens-le x h k = event-tens-le (x .event) (x .input) (x .former) h k
+tens-le x h k = event-tens-le (x .event) (x .ten) (x .former) h k
 
 rows-small : (xs : List Seen) → Small rowOf 8 xs
 rows-small [] = tt
 rows-small (x ∷ xs) = (omega (arith, row-length x), rows-small xs)
 
-tens-small : (xs : List Seen) → Tens xs → Small tensOf 20 xs
-unfolding Tens
+tens-small : (xs : List Seen) → TensBeside xs → Small tensOf 20 xs
+unfolding TensBeside
 tens-small [] t = tt
 tens-small (x ∷ xs) t = (tens-le x (t .0 .0) (t .0 .1), tens-small xs (t .1))
 
@@ -160,9 +153,9 @@ tens-are i (x ∷ xs) mem =
     tens-are (suc i) xs (put mem (20 * i) (tensOf x)) ∙ rw e
 
 -- rows and tens that were put tell of their events
-told : (i : ℕ) (xs : List Seen) (rows tens : List ℤ) → Tens xs → 8 * i + 8 * length xs ≤ length rows
-    → 20 * i + 20 * length xs ≤ length tens → AllTold i xs (from rowOf 8 (8 * i) xs rows) (from tensOf 20 (20 * i) xs tens)
-unfolding AllTold Tens
+told : (i : ℕ) (xs : List Seen) (rows tens : List ℤ) → TensBeside xs → 8 * i + 8 * length xs ≤ length rows
+    → 20 * i + 20 * length xs ≤ length tens → AllInRows i xs (from rowOf 8 (8 * i) xs rows) (from tensOf 20 (20 * i) xs tens)
+unfolding AllInRows TensBeside
 told i [] rows tens t h k = tt
 told i (x ∷ xs) rows tens t h k =
     let a : 8 * suc i ≡ 8 * i + 8 = omega arith in
@@ -179,9 +172,9 @@ told i (x ∷ xs) rows tens t h k =
       rw (a, b) at (told (suc i) xs (put rows (8 * i) (rowOf x)) (put tens (20 * i) (tensOf x)) (t .1) (omega arith) (omega arith)),
     )
 
-module _ (xs : List Seen) (t : Tens xs) where
+module _ (xs : List Seen) (t : TensBeside xs) where
   pub all-told : (rows tens : List ℤ) → 8 * length xs ≤ length rows → 20 * length xs ≤ length tens
-      → AllTold 0 xs (rowsFrom 0 xs rows) (tensFrom 0 xs tens)
+      → AllInRows 0 xs (rowsFrom 0 xs rows) (tensFrom 0 xs tens)
   all-told rows tens h k = rw (rows-are 0 xs rows, tens-are 0 xs tens) (told 0 xs rows tens t (omega arith) (omega arith))
 
   pub rows-length : (mem : List ℤ) → 8 * length xs ≤ length mem → length (rowsFrom 0 xs mem) ≡ length mem

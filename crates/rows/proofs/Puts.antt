@@ -1,12 +1,16 @@
 -- Numbers in their place of a lent memory. Assumes nothing.
-use Prim.Native.Nat.{ℕ, suc, _+_, _≤_}
+use Prim.Native.Nat.{ℕ, suc, _+_, _*_, _/_, _≤_, _<_}
 use mathlib.Core.Path.{_≡_, refl, sym, ap, _∙_}
 use mathlib.Core.List.{List, [], _∷_, _++_, append-assoc}
 use native.Mathlib.Omega.{arith}
 use lib.ListN.{length, take, drop, set, take-append-drop, length-append, length-take, length-drop}
+use lib.Dec.{ltb}
 use lib.Seq.{sets-eq, paste, take-all, take-at, drop-at, drop-drop}
 use lib.IntN.{ℤ}
-use Rattle.many.specs.Many.{put}
+use borrow.Author.Tests.{lt-ltb, le-ltb}
+use Rattle.num.proofs.Cases.{by-bool}
+use Rattle.rows.specs.Rows.{put}
+use Rattle.rows.specs.Stores.{place}
 
 pub put-length : (l : List ℤ) (at : ℕ) (ns : List ℤ) → at + length ns ≤ length l → length (put l at ns) ≡ length l
 unfolding put
@@ -18,16 +22,27 @@ put-none l at =
     let e : at + 0 ≡ at = omega arith in
     rw e (take-append-drop at l)
 
+-- a block, where there is room for it
+pub placed : (k i : ℕ) (ns mem : List ℤ) → i < length mem / k → place k i ns mem ≡ put mem (k * i) ns
+placed k i ns mem h = rw (lt-ltb i (length mem / k) h)
+
+pub not-placed : (k i : ℕ) (ns mem : List ℤ) → length mem / k ≤ i → place k i ns mem ≡ mem
+not-placed k i ns mem h = rw (le-ltb i (length mem / k) h)
+
+pub place-none : (k i : ℕ) (mem : List ℤ) → place k i [] mem ≡ mem
+place-none k i mem =
+    by-bool (ltb i (length mem / k)) (λ t. rw t (put-none mem (k * i))) (λ t. rw t)
+
 -- the numbers with what stands before them, then the rest
 apart : (l : List ℤ) (at n : ℕ) (ns : List ℤ) → length ns ≡ n → (take at l ++ ns) ++ drop (at + n) l ≡ put l at ns
 unfolding put
 apart l at n ns e = append-assoc (take at l) ns (drop (at + n) l) ∙ ap (λ (k : ℕ). take at l ++ (ns ++ drop (at + k) l)) (sym e)
 
 -- a row as eight stores
-pub eight : (l : List ℤ) (at : ℕ) (x a b c d e f g : ℤ) → at + 8 ≤ length l
+pub eight-sets : (l : List ℤ) (at : ℕ) (x a b c d e f g : ℤ) → at + 8 ≤ length l
     → set (set (set (set (set (set (set (set l at x) (at + 1) a) (at + 2) b) (at + 3) c) (at + 4) d) (at + 5) e) (at + 6) f) (at + 7) g
     ≡ put l at (x ∷ a ∷ b ∷ c ∷ d ∷ e ∷ f ∷ g ∷ [])
-eight l at x a b c d e f g h =
+eight-sets l at x a b c d e f g h =
     let e1 : at + 1 ≡ suc at = omega arith in
     let e2 : at + 2 ≡ suc (suc at) = omega arith in
     let e3 : at + 3 ≡ suc (suc (suc at)) = omega arith in
