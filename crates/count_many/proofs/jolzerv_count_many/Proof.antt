@@ -27,9 +27,11 @@ add-count c =
     let l = t .before .loop in
     let a = t .before .before .before .before .before .args in
     let m = c .before .before .read-many in
-    omega
-    (arith, far-sum (versionIf (a .second)) (a .body .now) (l .reader) (l .at) (l .count) (l .turns) (l .inv .0)
-    (omega (arith, t .loop-test .taken)) _ _ _ _ (l .inv .1 .0) (l .inv .1 .1) (m .result) (m .ensures))
+    omega (
+      arith,
+      far-sum (versionIf (a .second)) (a .body .now) (l .reader) (l .at) (l .count) (l .turns) (l .inv .0)
+          (omega (arith, t .loop-test .taken)) _ _ _ _ (l .inv .1 .0) (l .inv .1 .1) (m .result) (m .ensures),
+    )
 
 returns : tie.Need-returns Inv-loop μ-loop
 returns c =

@@ -1,8 +1,8 @@
--- Lines from rows of numbers: what stands in them of an event that was seen.
-use Prim.Native.Nat.{ℕ, suc, _+_, _*_, _≤_}
+-- Inner: lines from rows of numbers.
+use Prim.Native.Nat.{ℕ, _+_, _*_, _≤_}
 use mathlib.Core.Path.{_≡_}
 use mathlib.Core.Bool.{cond}
-use mathlib.Core.List.{List, [], _∷_}
+use mathlib.Core.List.{List, _∷_}
 use lib.ListN.{length, take, drop, getD}
 use lib.IntN.{ℤ, pos}
 use Rattle.varint.specs.declared.Wrote.{Wrote}
@@ -10,9 +10,10 @@ use Rattle.varint.specs.declared.Wrote.the-variants.{Past, Refused}
 use Rattle.item.specs.declared.Cid.{Cid}
 use Rattle.item.specs.declared.Cid.the-variants.{Of, NoCid}
 use Rattle.state.specs.State.{same}
-use Rattle.many.specs.Many.{Seen, rowOf, tensOf}
+use Rattle.calls.specs.Calls.{Seen}
+use Rattle.rows.specs.Stores.{InRow, AllInRows}
 use Rattle.lines.specs.Lines.{plainLine, plainMost, recordLine, lineOf, longest, Puts, textAnswer, textTarget}
-use Rattle.replayer.specs.Replay.{textOf}
+use Rattle.row_lines.specs.Text.{textOf}
 
 -- the place past what was written, else the place itself
 abbrev pub pastOr : Wrote → ℕ → ℕ
@@ -40,23 +41,12 @@ abbrev pub recordTold : List ℤ → ℕ → List ℕ
 recordTold rows first =
     recordLine (getD rows first (pos 0)) (cidTold (getD rows (first + 1) (pos 0)) (getD rows (first + 2) (pos 0)))
 
--- row i tells of an event that was seen, and so do its twenty numbers
-pub record Told (x : Seen) (i : ℕ) (rows tens : List ℤ) : Type 0 where
-  pub row : take 8 (drop (8 * i) rows) ≡ rowOf x
-  pub twenty : take (length (tensOf x)) (drop (20 * i) tens) ≡ tensOf x
-  pub ten : length (x .input) ≡ 10
-
--- the rows from i on tell of events one behind the other
-unfoldable pub AllTold : ℕ → List Seen → List ℤ → List ℤ → Type 0
-AllTold i [] rows tens = Unit {0}
-AllTold i (x ∷ xs) rows tens = Told x i rows tens × AllTold (suc i) xs rows tens
-
 -- the line of the event of which row i tells is put where the longest line has room
 abbrev pub PutsLine : List ℤ → List ℤ → ℕ → List ℕ → ℕ → ℕ → List ℕ → Type 0
 PutsLine rows tens i out at next ys =
-    (x : Seen) → Told x i rows tens → at + longest ≤ length out → Puts out at (lineOf (x .event) (x .input)) next ys
+    (x : Seen) → InRow x i rows tens → at + longest ≤ length out → Puts out at (lineOf (x .event) (x .ten)) next ys
 
--- and so are those of the first rows
+-- and so are those of the first rows, if there are so many
 abbrev pub PutsLines : List ℤ → List ℤ → ℕ → List ℕ → ℕ → List ℕ → Type 0
 PutsLines rows tens count out next ys =
-    (xs : List Seen) → length xs ≡ count → AllTold 0 xs rows tens → longest * count ≤ length out → Puts out 0 (textOf xs) next ys
+    (xs : List Seen) → length xs ≡ count → 8 * count ≤ length rows → 20 * count ≤ length tens → AllInRows 0 xs rows tens → longest * count ≤ length out → Puts out 0 (textOf xs) next ys

@@ -1,9 +1,9 @@
--- `replayer::cid_of` meets its contract. Assumes nothing.
+-- `row_lines::cid_of` meets its contract. Assumes nothing.
 use mir.Syntax.{w32}
 use mir.Facts.{toZ-ofZ}
-use Rattle.replayer.proofs.FromRows.{told-one, told-none}
-use Rattle.replayer.proofs.cid_of.Statement.{statement}
-use Rattle.replayer.proofs.cid_of.Tie as tie
+use Rattle.row_lines.proofs.FromRows.{told-one, told-none}
+use Rattle.row_lines.proofs.cid_of.Statement.{statement}
+use Rattle.row_lines.proofs.cid_of.Tie as tie
 
 returns : tie.Need-returns
 returns c =

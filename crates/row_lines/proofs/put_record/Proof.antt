@@ -1,4 +1,4 @@
--- `replayer::put_record` meets its contract. Assumes nothing.
+-- `row_lines::put_record` meets its contract. Assumes nothing.
 use Prim.Native.Nat.{_+_}
 use mathlib.Core.Path.{_≡_, _∙_, ap}
 use borrow.Author.Needs.{needs}
@@ -8,9 +8,9 @@ use mir.Syntax.{w32}
 use mir.Val.{toZ, ofZ}
 use Rattle.varint.specs.declared.Wrote.{Wrote}
 use Rattle.state.proofs.Numbers.{element}
-use Rattle.replayer.specs.Rows.{pastOr}
-use Rattle.replayer.proofs.put_record.Statement.{statement}
-use Rattle.replayer.proofs.put_record.Tie as tie
+use Rattle.row_lines.specs.RowLines.{pastOr}
+use Rattle.row_lines.proofs.put_record.Statement.{statement}
+use Rattle.row_lines.proofs.put_record.Tie as tie
 
 returns : tie.Need-returns
 returns c =
@@ -28,7 +28,7 @@ returns c =
     element _ (k .cid-of-arg2 .given) in
     let i = rw (h, z) at (i .cid-of .ensures) in
     let e = rw (v, i) at (w .write-record .ensures) in
-    (c .past .ensures ∙ ap (λ (x : Wrote). pastOr x (a .at)) (e .0), e .1)
+    (c .past-or .ensures ∙ ap (λ (x : Wrote). pastOr x (a .at)) (e .0), e .1)
 
 pub put-record-spec : {M : Type 1} → statement M
 put-record-spec =

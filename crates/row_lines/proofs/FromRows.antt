@@ -15,7 +15,8 @@ use Rattle.item.specs.Contents.{cidOf, tagNumber}
 use Rattle.item.specs.declared.Cid.{Cid}
 use Rattle.item.specs.declared.Cid.the-variants.{Of, NoCid}
 use Rattle.state.specs.Reading.{Event, tickStart, tickEnd, playerNew, playerChange, playerOld, input, other}
-use Rattle.many.specs.Many.{Seen, hasClient, clientOr0, eventRow, rowOf, eventTens, tensOf}
+use Rattle.calls.specs.Calls.{Seen}
+use Rattle.rows.specs.Rows.{hasClient, clientOr0, eventRow, rowOf, eventTens, tensOf}
 use Rattle.lines.specs.Lines.{
   startWord,
   endWord,
@@ -31,7 +32,8 @@ use Rattle.lines.specs.Lines.{
   Puts,
 }
 use Rattle.lines.proofs.Texts.{same-text}
-use Rattle.replayer.specs.Rows.{Tries, TriesPlain, cidTold, clientAnd, recordTold, Told}
+use Rattle.rows.specs.Stores.{InRow}
+use Rattle.row_lines.specs.RowLines.{Tries, TriesPlain, cidTold, clientAnd, recordTold}
 
 -- ---- the client of which two numbers tell
 
@@ -111,7 +113,7 @@ behind-two k [] h = refl
 behind-two k (a ∷ []) h = refl
 behind-two k (a ∷ b ∷ l) h = take-take k 6 l h
 
-module _ (x : Seen) (i : ℕ) (rows tens : List ℤ) (t : Told x i rows tens) where
+module _ (x : Seen) (i : ℕ) (rows tens : List ℤ) (t : InRow x i rows tens) where
   part : (k : ℕ) → k ≤ 6 → take k (drop (8 * i + 2) rows) ≡ take k (drop 2 (rowOf x))
   part k h =
       ap (take k) (sym (drop-drop 2 (8 * i) rows))
@@ -127,44 +129,44 @@ module _ (x : Seen) (i : ℕ) (rows tens : List ℤ) (t : Told x i rows tens) wh
   bits : ofZ w32 (getD rows (8 * i) (pos 0)) ≡ ofZ w32 (getD (rowOf x) 0 (pos 0))
   bits = ap (ofZ w32) (ap (λ (n : ℕ). getD rows n (pos 0)) (sym (add-zero (8 * i))) ∙ number 0 (omega arith))
 
-  by-row : (k : ℕ) → ofZ w32 (getD rows (8 * i) (pos 0)) ≡ k → k ≤ 6 → lineBy k (rowOf x) (x .input) ≡ lineOf (x .event) (x .input)
+  by-row : (k : ℕ) → ofZ w32 (getD rows (8 * i) (pos 0)) ≡ k → k ≤ 6 → lineBy k (rowOf x) (x .ten) ≡ lineOf (x .event) (x .ten)
   unfolding rowOf
-  by-row k e h = by-number (x .event) _ _ (x .input) k (sym bits ∙ e) h
+  by-row k e h = by-number (x .event) _ _ (x .ten) k (sym bits ∙ e) h
 
   module _ (xs : List ℕ) (at : ℕ) (room : at + longest ≤ length xs) (next : ℕ) (ys : List ℕ) where
     pub plain-put : (word : List ℕ) (n k to : ℕ) → to - (8 * i + 2) ≡ n → n ≤ 6 → length word ≤ 6
         → ofZ w32 (getD rows (8 * i) (pos 0)) ≡ k → k ≤ 6
-        → lineBy k (rowOf x) (x .input) ≡ plainLine word (take n (drop 2 (rowOf x)))
+        → lineBy k (rowOf x) (x .ten) ≡ plainLine word (take n (drop 2 (rowOf x)))
         → TriesPlain word (take (to - (8 * i + 2)) (drop (8 * i + 2) rows)) xs at next ys
-        → Puts xs at (lineOf (x .event) (x .input)) next ys
+        → Puts xs at (lineOf (x .event) (x .ten)) next ys
     plain-put word n k to e h small b j f p =
         let ns = take n (drop (8 * i + 2) rows) in
         let l = length-take n (drop (8 * i + 2) rows) in
-        let g : plainLine word ns ≡ lineOf (x .event) (x .input) =
+        let g : plainLine word ns ≡ lineOf (x .event) (x .ten) =
         ap (plainLine word) (part n h) ∙ sym f ∙ by-row k b j in
         same-text xs at _ _ g next ys (puts-of (plainMost word ns) xs at (plainLine word ns) next ys (omega arith) (rw e at p))
 
     pub input-put : ofZ w32 (getD rows (8 * i) (pos 0)) ≡ 6
         → TriesPlain inputWord (clientAnd rows (8 * i + 2) tens (20 * i)) xs at next ys
-        → Puts xs at (lineOf (x .event) (x .input)) next ys
+        → Puts xs at (lineOf (x .event) (x .ten)) next ys
     unfolding rowOf tensOf lineBy
     input-put b p =
         let ns = clientAnd rows (8 * i + 2) tens (20 * i) in
         let l = length-take 10 (drop (20 * i) tens) in
-        let ten = ten-of (x .event) _ _ (x .input) (x .former) (drop (20 * i) tens) (t .ten) (sym bits ∙ b) (t .twenty) in
-        let g : plainLine inputWord ns ≡ lineOf (x .event) (x .input) =
+        let ten = ten-of (x .event) _ _ (x .ten) (x .former) (drop (20 * i) tens) (t .ten) (sym bits ∙ b) (t .twenty) in
+        let g : plainLine inputWord ns ≡ lineOf (x .event) (x .ten) =
         ap (λ (z : ℤ). plainLine inputWord (z ∷ take 10 (drop (20 * i) tens))) (number 2 (omega arith))
         ∙ ap (λ (zs : List ℤ). plainLine inputWord (getD (rowOf x) 2 (pos 0) ∷ zs)) ten
         ∙ by-row 6 b (omega arith) in
         same-text xs at _ _ g next ys (puts-of (plainMost inputWord ns) xs at (plainLine inputWord ns) next ys (omega arith) p)
 
     pub record-put : Unlike (ofZ w32 (getD rows (8 * i) (pos 0)))
-        → Tries longest xs at (recordTold rows (8 * i + 2)) next ys → Puts xs at (lineOf (x .event) (x .input)) next ys
+        → Tries longest xs at (recordTold rows (8 * i + 2)) next ys → Puts xs at (lineOf (x .event) (x .ten)) next ys
     unfolding rowOf
     record-put u p =
         let three : 8 * i + 2 + 1 ≡ 8 * i + 3 = omega arith in
         let four : 8 * i + 2 + 2 ≡ 8 * i + 4 = omega arith in
-        let g : recordTold rows (8 * i + 2) ≡ lineOf (x .event) (x .input) =
+        let g : recordTold rows (8 * i + 2) ≡ lineOf (x .event) (x .ten) =
         rw (three, four, number 2 (omega arith), number 3 (omega arith), number 4 (omega arith))
-        (record-row (x .event) _ _ (x .input) (rw bits at u)) in
+        (record-row (x .event) _ _ (x .ten) (rw bits at u)) in
         same-text xs at _ _ g next ys (puts-of longest xs at (recordTold rows (8 * i + 2)) next ys room p)

@@ -1,12 +1,12 @@
--- `replayer::put_row` meets its contract: each arm puts the line of the event that has its number. Assumes nothing.
+-- `row_lines::put_row` meets its contract: each arm puts the line of the event that has its number. Assumes nothing.
 use Prim.Native.Nat.{_+_, _*_}
 use mathlib.Core.Path.{refl}
 use native.Mathlib.Omega.{arith}
 use borrow.Author.Needs.{needs}
 use Rattle.lines.specs.Lines.{startWord, endWord, newWord, changeWord, oldWord}
-use Rattle.replayer.proofs.FromRows.{lineBy, plain-put, input-put, record-put}
-use Rattle.replayer.proofs.put_row.Statement.{statement}
-use Rattle.replayer.proofs.put_row.Tie as tie
+use Rattle.row_lines.proofs.FromRows.{lineBy, plain-put, input-put, record-put}
+use Rattle.row_lines.proofs.put_row.Statement.{statement}
+use Rattle.row_lines.proofs.put_row.Tie as tie
 
 returns : tie.Need-returns
 unfolding lineBy

@@ -1,4 +1,4 @@
--- `replayer::put_input` meets its contract. Assumes nothing.
+-- `row_lines::put_input` meets its contract. Assumes nothing.
 use Prim.Native.Nat.{_+_, _-_}
 use mathlib.Core.Path.{_≡_, _∙_, ap}
 use native.Mathlib.Omega.{arith}
@@ -9,9 +9,9 @@ use mir.Syntax.{w32}
 use mir.Val.{toZ, ofZ}
 use Rattle.varint.specs.declared.Wrote.{Wrote}
 use Rattle.state.proofs.Numbers.{element}
-use Rattle.replayer.specs.Rows.{pastOr}
-use Rattle.replayer.proofs.put_input.Statement.{statement}
-use Rattle.replayer.proofs.put_input.Tie as tie
+use Rattle.row_lines.specs.RowLines.{pastOr}
+use Rattle.row_lines.proofs.put_input.Statement.{statement}
+use Rattle.row_lines.proofs.put_input.Tie as tie
 
 returns : tie.Need-returns
 returns c =
@@ -22,7 +22,7 @@ returns c =
     let v : toZ w32 (ofZ w32 z) ≡ z = element z (g .write-input-arg .given) in
     let n : a .from + 10 - a .from ≡ 10 = omega arith in
     let e = rw (v, n) at (w .write-input .ensures) in
-    (c .past .ensures ∙ ap (λ (x : Wrote). pastOr x (a .at)) (e .0), e .1)
+    (c .past-or .ensures ∙ ap (λ (x : Wrote). pastOr x (a .at)) (e .0), e .1)
 
 pub put-input-spec : {M : Type 1} → statement M
 put-input-spec =
