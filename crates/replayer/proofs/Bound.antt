@@ -1,6 +1,7 @@
 -- So many calls are enough for a body. Assumes nothing.
 use Prim.Native.Nat.{ℕ, suc, _+_}
 use mathlib.Core.Path.{_≡_, sym, _∙_, ap}
+use mathlib.Core.Bool.{false}
 use mathlib.Core.List.{List, _++_}
 use native.Mathlib.Omega.{arith}
 use lib.ListN.{length-take}
@@ -11,7 +12,7 @@ use Rattle.calls.specs.Calls.{Run, enough}
 use Rattle.calls.specs.Laws.{Within}
 use Rattle.calls.proofs.Theorems as calls
 use Rattle.row_lines.specs.Text.{textOf}
-use Rattle.replayer.specs.Replay.{full, windowCall, lastOf, replayFrom, replayText}
+use Rattle.replayer.specs.Replay.{full, endingOf, windowCall, replayFrom, replayText}
 use Rattle.replayer.specs.Laws.{turnsText, AllPrinted, TurnsPrintText}
 use Rattle.replayer.proofs.Whole.{turns-replay}
 
@@ -22,7 +23,7 @@ window-within bytes = omega (arith, length-take full bytes)
 pub enough-calls : (r : Reader) (body : List ℕ) (k : ℕ) → replayFrom (enough body + k) r body ≡ replayFrom (enough body) r body
 unfolding replayFrom
 enough-calls r body k =
-    ap (λ (run : Run). textOf (run .seen) ++ lastOf (run .halt)) (calls.enough-calls windowCall window-within k r body)
+    ap (λ (run : Run). textOf (run .seen) ++ endingOf false (run .halt) 0) (calls.enough-calls windowCall window-within k r body)
 
 pub printed-text : (v : Version) (body text : List ℕ) → AllPrinted (emptyReader v) body text → text ≡ replayText v body
 printed-text v body text a =

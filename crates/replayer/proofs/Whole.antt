@@ -16,7 +16,7 @@ use Rattle.state.specs.declared.Reader.{Reader}
 use Rattle.calls.specs.Calls.{isPending, along, Seen, Halt, isFull, wantsMore, finishes, isRefused, Run, seenBy, before, onSaid, calls}
 use Rattle.lines.specs.Lines.{lineOf, lastLine, plainLine, refusedWord}
 use Rattle.lines.specs.declared.Ending.the-variants.{Finish, TooLong}
-use Rattle.replayer.specs.Replay.{full, windowOf, isShort, isLast, ends, endingOf, wants, turnRun, windowCall, lastOf, replayFrom}
+use Rattle.replayer.specs.Replay.{full, windowOf, isShort, isLast, ends, endingOf, wants, turnRun, windowCall, replayFrom}
 use Rattle.row_lines.specs.Text.{textOf}
 use Rattle.replayer.specs.Laws.{
   Arrived,
@@ -71,7 +71,7 @@ printed (refuses k vs) ten next = plainLine refusedWord (pos k ∷ [])
 
 said-prints : (k : ℕ) (r : Reader) (b : List ℕ) (a : Said Event) → let run = follow windowCall k r b a in
     let t = readCall r (windowOf b) (isLast true b) in
-    textOf (run .seen) ++ lastOf (run .halt) ≡ printed a (t .memory .input) (λ n. replayFrom k (readerAfter t) (drop n b))
+    textOf (run .seen) ++ endingOf false (run .halt) 0 ≡ printed a (t .memory .input) (λ n. replayFrom k (readerAfter t) (drop n b))
 unfolding replayFrom textOf
 said-prints k r b (gives e n) =
     let t = readCall r (windowOf b) (isLast true b) in

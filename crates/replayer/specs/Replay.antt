@@ -97,16 +97,10 @@ pub record Turns (bytes : List ℕ) (run : Run) (rows₀ tens₀ : List ℤ) (ou
 abbrev pub windowCall : List ℕ → Call
 windowCall bytes = record { window = windowOf bytes; last = isLast true bytes }
 
--- the last line: of a body, more is too long
-abbrev pub lastOf : Halt → List ℕ
-lastOf isFull = []
-lastOf wantsMore = lastLine TooLong
-lastOf finishes = lastLine Finish
-lastOf (isRefused k vs) = plainLine refusedWord (pos k ∷ [])
-
--- what the program prints of what is left of a body, in at most so many calls
+-- what the program prints of what is left of a body, in at most so many calls; the window of a call that answers more is full, and on it
+-- no event came
 unfoldable pub replayFrom : ℕ → Reader → List ℕ → List ℕ
-replayFrom k r body = let run = along windowCall k r body in textOf (run .seen) ++ lastOf (run .halt)
+replayFrom k r body = let run = along windowCall k r body in textOf (run .seen) ++ endingOf false (run .halt) 0
 
 -- what the program prints of a body
 abbrev pub replayText : Version → List ℕ → List ℕ

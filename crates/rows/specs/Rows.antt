@@ -1,4 +1,4 @@
--- Rows of numbers that tell of events: eight numbers for each, and twenty for an input. docs/FORMAT.md, "Many events".
+-- Rows of numbers that tell of events: eight numbers for each, and twenty for an input. docs/FORMAT.md, "Many events in one call".
 use Prim.Native.Nat.{ℕ, suc, _+_, _*_, _/_, min}
 use mathlib.Core.Bool.{Bool, true, false}
 use mathlib.Core.List.{List, [], _∷_, _++_}
