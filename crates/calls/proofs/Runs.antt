@@ -55,15 +55,6 @@ module _ (see : List ℕ → Call) (k : ℕ) (r : Reader) (bytes : List ℕ) whe
   abbrev pub follow : Said Event → Run
   follow a = onSaid a (λ e n. before (gives-first e n) (along see k (readerAfter first) (drop n bytes))) (readerAfter first)
 
-  -- by what the first call says
-  pub by-said : (P : Run → Type 0) → ((a : Said Event) → first .said ≡ a → P (follow a)) → P (along see (suc k) r bytes)
-  unfolding along
-  by-said P f = f (first .said) refl
-
-  pub said-is : (a : Said Event) → first .said ≡ a → along see (suc k) r bytes ≡ follow a
-  unfolding along
-  said-is a e = ap follow e
-
 -- ---- a list of calls
 
 module _ (see : List ℕ → Call) (k : ℕ) (r : Reader) (bytes : List ℕ) (again : (q : Reader) (b : List ℕ) → IsList q (along see k q b)) where
