@@ -1,73 +1,81 @@
 -- How far single calls have counted. Assumes nothing.
 use Prim.Native.Nat.{ℕ, suc, _+_, _-_, _≤_, _<_, zero-le}
 use native.Mathlib.Omega.{arith}
-use mathlib.Core.Path.{_≡_, refl, sym, ap, _∙_}
+use mathlib.Core.Path.{_≡_, sym, _∙_}
 use mathlib.Core.Bool.{true}
 use mathlib.Core.List.{List}
 use lib.ListN.{length, take, drop, length-drop}
 use lib.Seq.{drop-drop, take-all}
-use Rattle.item.specs.Said.{gives}
+use Rattle.item.specs.Said.{Said, gives, more, finish, refuses}
 use Rattle.kinds.specs.declared.Version.{Version}
 use Rattle.state.specs.State.{emptyReader}
-use Rattle.state.specs.Reading.{Event, Step, readCall, readerAfter}
+use Rattle.state.specs.Reading.{Event, readCall, readerAfter}
+use Rattle.state.specs.Laws.{usedIn}
 use Rattle.state.specs.declared.Reader.{Reader}
-use Rattle.count.specs.Count.{most, eventsIn}
-use Rattle.count.proofs.Runs.{events, no-calls, event-counts, no-event, NoEvent, used-within}
+use Rattle.calls.proofs.Theorems.{call-within}
+use Rattle.count.specs.Count.{most, countOf, usedBy}
+use Rattle.count.specs.declared.Used.{Used}
+use Rattle.count.specs.declared.Used.the-variants.{Bytes, NoEvent}
+use Rattle.count.proofs.Runs.{events, no-calls, most-calls, first-counts}
 
 -- so many events were counted, and the rest is counted from the reader and the place reached
 pub record Far (v : Version) (body : List ℕ) (r : Reader) (at count : ℕ) : Type 0 where
   pub within : at ≤ length body
   pub few : count ≤ most
-  pub rest : eventsIn v body ≡ count + events (most - count) r (drop at body) true
+  pub rest : countOf v body ≡ count + events (most - count) r (drop at body)
 
 pub far-start : (v : Version) (body : List ℕ) → Far v body (emptyReader v) 0 0
-unfolding eventsIn
-far-start v body = record { within = zero-le; few = zero-le; rest = omega arith }
+far-start v body = record { within = zero-le; few = zero-le; rest = omega (arith, most-calls v body) }
 
 -- the window of a call: the bytes from the place on
 abbrev pub windowAt : List ℕ → ℕ → List ℕ
 windowAt body at = take (length body - at) (drop at body)
 
-whole : (body : List ℕ) (at : ℕ) → windowAt body at ≡ drop at body
-whole body at =
-    let l : length (drop at body) ≡ length body - at = length-drop at body in
-    take-all (length body - at) (drop at body) (omega (arith, l))
+pub whole : (body : List ℕ) (at : ℕ) → windowAt body at ≡ drop at body
+whole body at = take-all (length body - at) (drop at body) (omega (arith, length-drop at body))
+
+used-within : (a : Said Event) (n : ℕ) → Bytes n ≡ usedBy a → usedIn a ≡ n
+used-within (gives e n) m h = cc
+used-within more m h = let z : _≡_ {A = ℕ} 0 1 = cc in absurd (omega arith)
+used-within (finish n) m h = let z : _≡_ {A = ℕ} 0 1 = cc in absurd (omega arith)
+used-within (refuses k vs) m h = let z : _≡_ {A = ℕ} 0 1 = cc in absurd (omega arith)
 
 module _ (v : Version) (body : List ℕ) (r : Reader) (at count : ℕ) (f : Far v body r at count) where
-  pub far-full : most ≤ count → count ≡ eventsIn v body
+  pub far-full : most ≤ count → count ≡ countOf v body
   far-full h =
       let e : most - count ≡ 0 = omega (arith, h) in
-      let n = no-calls r (drop at body) true in
-      let s : eventsIn v body ≡ count + events 0 r (drop at body) true = rw e at (f .rest) in
-      omega (arith, s, n)
+      let s : countOf v body ≡ count + events 0 r (drop at body) = rw e at (f .rest) in
+      omega (arith, s, no-calls r (drop at body))
 
-  module _ (h : count < most) where
-    -- one call fewer
-    fewer : most - count ≡ suc (most - (count + 1))
-    fewer = omega (arith, h)
+  -- one call more, by the bytes that its event used
+  module _ (h : count < most) (u : Used) (said : u ≡ usedBy (readCall r (windowAt body at) true .said)) where
+    here : u ≡ usedBy (readCall r (drop at body) true .said)
+    here = rw (whole body at) at said
 
-    pub far-end : NoEvent (readCall r (windowAt body at) true .said) → count ≡ eventsIn v body
-    far-end is =
-        let i : NoEvent (readCall r (drop at body) true .said) = rw (whole body at) at is in
-        let n = no-event (most - (count + 1)) r (drop at body) true _ refl i in
-        let s : eventsIn v body ≡ count + events (suc (most - (count + 1))) r (drop at body) true = rw fewer at (f .rest) in
-        omega (arith, s, n)
+    left : ℕ
+    left = most - (count + 1)
 
-    pub far-more : (q : Reader) (e : Event) (n : ℕ) → readCall r (windowAt body at) true .said ≡ gives e n
-        → q ≡ readerAfter (readCall r (windowAt body at) true) → Far v body q (at + n) (count + 1)
-    far-more q e n gave left =
-        let said : readCall r (drop at body) true .said ≡ gives e n = rw (whole body at) at gave in
-        let is : q ≡ readerAfter (readCall r (drop at body) true) = rw (whole body at) at left in
-        let c = event-counts (most - (count + 1)) r (drop at body) true _ n said in
-        let s : eventsIn v body ≡ count + events (suc (most - (count + 1))) r (drop at body) true = rw fewer at (f .rest) in
-        let u : n ≤ length (drop at body) = used-within r (drop at body) true _ n said in
-        let l : length (drop at body) ≡ length body - at = length-drop at body in
-        let w = f .within in
-        let d : events (most - (count + 1)) (readerAfter (readCall r (drop at body) true)) (drop n (drop at body)) true
-        ≡ events (most - (count + 1)) q (drop (at + n) body) true =
-        rw (is, drop-drop) refl in
+    rest : countOf v body ≡ count + events (suc left) r (drop at body)
+    unfolding left
+    rest =
+        let e : most - count ≡ suc (most - (count + 1)) = omega (arith, h) in
+        rw e at (f .rest)
+
+    pub far-end : u ≡ NoEvent → count ≡ countOf v body
+    far-end e =
+        let n : events (suc left) r (drop at body) ≡ 0 = first-counts left r (drop at body) NoEvent (sym e ∙ here) in
+        omega (arith, rest, n)
+
+    pub far-more : (q : Reader) (n : ℕ) → u ≡ Bytes n → q ≡ readerAfter (readCall r (windowAt body at) true) → Far v body q (at + n) (count + 1)
+    unfolding left
+    far-more q n e is =
+        let b : Bytes n ≡ usedBy (readCall r (drop at body) true .said) = sym e ∙ here in
+        let w = call-within r (drop at body) true in
+        let to : q ≡ readerAfter (readCall r (drop at body) true) = rw (whole body at) at is in
+        let d : events left (readerAfter (readCall r (drop at body) true)) (drop n (drop at body)) ≡ events left q (drop (at + n) body) =
+        rw (to, drop-drop) in
         record {
-          within = omega (arith, u, l, w);
+          within = omega (arith, f .within, w, used-within (readCall r (drop at body) true .said) n b, length-drop at body);
           few = omega (arith, h);
-          rest = omega (arith, s, c, d);
+          rest = omega (arith, rest, first-counts left r (drop at body) (Bytes n) b, d);
         }

@@ -1,21 +1,35 @@
 -- How many events a body has.
-use Prim.Native.Nat.{ℕ}
+use Prim.Native.Nat.{ℕ, min}
 use mathlib.Core.Bool.{Bool, true, false}
 use mathlib.Core.List.{List}
 use lib.ListN.{length}
+use Rattle.item.specs.Said.{Said, gives, more, finish, refuses}
 use Rattle.kinds.specs.declared.Version.{Version}
 use Rattle.kinds.specs.declared.Version.the-variants.{V1, V2}
 use Rattle.state.specs.State.{emptyReader}
-use Rattle.many.specs.Many.{calls}
+use Rattle.state.specs.Reading.{Event}
+use Rattle.calls.specs.Calls.{calls, enough}
+use Rattle.count.specs.declared.Used.{Used}
+use Rattle.count.specs.declared.Used.the-variants.{Bytes, NoEvent}
 
 abbrev pub versionIf : Bool → Version
 versionIf true = V2
 versionIf false = V1
 
--- more calls than any body has events
+-- the events before finish or a refusal, the body read whole from an empty reader
+unfoldable pub eventsIn : Version → List ℕ → ℕ
+eventsIn v body = length (calls (enough body) (emptyReader v) body true .seen)
+
+-- a count goes to 2^62, which no body in a memory reaches
 abbrev pub most : ℕ
 most = 4611686018427387904
 
--- the events before finish or a refusal, the body read whole from an empty reader
-unfoldable pub eventsIn : Version → List ℕ → ℕ
-eventsIn v body = length (calls most (emptyReader v) body true .seen)
+abbrev pub countOf : Version → List ℕ → ℕ
+countOf v body = min most (eventsIn v body)
+
+-- the bytes that the event of a call used
+abbrev pub usedBy : Said Event → Used
+usedBy (gives e n) = Bytes n
+usedBy more = NoEvent
+usedBy (finish n) = NoEvent
+usedBy (refuses k vs) = NoEvent

@@ -2,8 +2,16 @@
 // (count_many).
 ghost use Prim.Native.Nat.{_+_, min};
 ghost use mathlib.Core.Path.{_≡_};
-ghost use Rattle.count.specs.Count.{versionIf};
+ghost use Rattle.state.specs.Views.{saidIs};
+ghost use Rattle.count.specs.Count.{versionIf, usedBy};
 use kinds::Version;
+use state::Answer;
+
+// The bytes that the event of a call used, if it gave one.
+pub enum Used {
+    Bytes(usize),
+    NoEvent,
+}
 
 pub fn version_if(second: bool) -> Version
     ensures { λ r. ⌜ r ≡ versionIf second ⌝ }
@@ -22,4 +30,15 @@ pub fn past(at: usize, used: usize, end: usize) -> usize
         return end;
     }
     at + used
+}
+
+pub fn event_used(answer: Answer) -> Used
+    ensures { λ r. ⌜ r ≡ usedBy (saidIs answer) ⌝ }
+{
+    match answer {
+        Answer::Event { event: _, used } => Used::Bytes(used),
+        Answer::More => Used::NoEvent,
+        Answer::Finish { used: _ } => Used::NoEvent,
+        Answer::Refused(_) => Used::NoEvent,
+    }
 }

@@ -1,7 +1,7 @@
 // How many events a body has, by calls on lent memory, for C and Rust programs to link. A library of its own, as count_each is.
 ghost use mathlib.Core.Path.{_≡_};
-ghost use Rattle.count.specs.Count.{versionIf, eventsIn};
-use state::Answer;
+ghost use Rattle.count.specs.Count.{versionIf, countOf};
+use count::Used;
 use state::Reader;
 
 const MOST: u64 = 4611686018427387904;
@@ -9,7 +9,7 @@ const MOST: u64 = 4611686018427387904;
 // The number of events before finish or a refusal, read one event a call on lent memory; second says that the version is 2.
 #[no_mangle]
 pub extern "C" fn jolzerv_count_lent(second: bool, body: &[u8]) -> u64
-    ensures { λ r. ⌜ r ≡ eventsIn (versionIf second) (now (body .entry)) ⌝ }
+    ensures { λ r. ⌜ r ≡ countOf (versionIf second) (now (body .entry)) ⌝ }
 {
     let reader = Reader::empty(count::version_if(second));
     let entries = reader.entries;
@@ -37,14 +37,10 @@ pub extern "C" fn jolzerv_count_lent(second: bool, body: &[u8]) -> u64
             true,
         );
         let answer = o.answer;
-        match answer {
-            Answer::Event { event: _, used } => {
-                at = count::past(at, used, body.len());
-            }
-            Answer::More => return count,
-            Answer::Finish { used: _ } => return count,
-            Answer::Refused(_) => return count,
-        }
+        let Used::Bytes(used) = count::event_used(answer) else {
+            return count;
+        };
+        at = count::past(at, used, body.len());
         let next = o.scalars;
         scalars = next;
         count += 1;

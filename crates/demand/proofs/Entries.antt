@@ -1,56 +1,21 @@
 -- Entries: they stay good where one is changed, and a change is taken back. Assumes nothing.
 use Prim.Native.Nat.{ℕ, zero, suc, _+_, _<_}
-use mathlib.Core.Path.{_≡_, _∙_}
+use mathlib.Core.Path.{_≡_}
 use mathlib.Core.Bool.{Bool, true, false, not, cond, _&&_}
 use mathlib.Core.List.{List, [], _∷_}
 use native.Mathlib.Omega.{arith}
-use native.Mathlib.Decide.{ℕ-discrete}
-use lib.ListN.{length, getD, set, length-set}
-use lib.Seq.{getD-set-same, getD-set-other, set-getD, set-set}
+use lib.ListN.{length, getD, set}
+use lib.Seq.{getD-set-same, set-getD, set-set}
 use lib.Dec.{ltb, eqb}
 use lib.IntN.{ℤ, pos}
 use borrow.Author.Tests.{eqb-true, lt-ltb}
-use Rattle.num.proofs.Cases.{by-eq}
-use Rattle.state.specs.State.{
-  same,
-  present,
-  xOf,
-  yOf,
-  withPlayer,
-  moved,
-  holds,
-  tenOf,
-  putTen,
-  withInput,
-  goodEntry,
-  goodPlayer,
-  goodPlayers,
-  tenZeros,
-  goodInput,
-  goodInputs,
-  goodEntries,
-}
+use Rattle.state.specs.State.{same, present, xOf, yOf, withPlayer, moved, holds, tenOf, putTen, withInput, goodPlayer, goodPlayers, tenZeros, goodInput, goodInputs, goodEntries}
+use Rattle.state.specs.Laws.{Sizes}
 use Rattle.state.specs.declared.Entries.{Entries}
 use Rattle.back.specs.Back.{sameAll, presentAt, formerInput}
 use Rattle.demand.specs.Demand.{players}
-use Rattle.demand.proofs.Tests.{
-  and-true,
-  and-both,
-  same-refl,
-  same-true,
-  same-all-refl,
-  every-at,
-  every-from,
-  blank,
-}
-use Rattle.demand.proofs.Ten.{ten-zeros, put-length, ten-put, zeros-off, put-back}
-
-pub record Sizes (e : Entries) : Type 0 where
-  pub marks : length (e .marks) ≡ 128
-  pub xs : length (e .xs) ≡ 128
-  pub ys : length (e .ys) ≡ 128
-  pub held : length (e .held) ≡ 128
-  pub inputs : length (e .inputs) ≡ 1280
+use Rattle.demand.proofs.Tests.{and-true, same-refl, same-true, same-all-refl, every-at, blank}
+use Rattle.demand.proofs.Ten.{ten-zeros, ten-put, put-back}
 
 module _ (e : Entries) (z : Sizes e) (c : ℕ) (h : c < 128) where
   pub mark-set : (m : ℕ) → getD (set (e .marks) c m) c 0 ≡ m
@@ -64,28 +29,6 @@ module _ (e : Entries) (z : Sizes e) (c : ℕ) (h : c < 128) where
 
   held-set : (m : ℕ) → getD (set (e .held) c m) c 0 ≡ m
   held-set m = getD-set-same (e .held) c m 0 (omega (arith, z .held))
-
-  -- ---- sizes
-
-  pub player-sizes : (m : ℕ) (x y : ℤ) → Sizes (withPlayer e c m x y)
-  player-sizes m x y =
-      record {
-        marks = length-set (e .marks) c m ∙ z .marks;
-        xs = length-set (e .xs) c x ∙ z .xs;
-        ys = length-set (e .ys) c y ∙ z .ys;
-        held = z .held;
-        inputs = z .inputs;
-      }
-
-  pub input-sizes : (m : ℕ) (ns : List ℤ) → Sizes (withInput e c m ns)
-  input-sizes m ns =
-      record {
-        marks = z .marks;
-        xs = z .xs;
-        ys = z .ys;
-        held = length-set (e .held) c m ∙ z .held;
-        inputs = put-length (e .inputs) (z .inputs) c h ns;
-      }
 
   -- ---- a change is taken back
 
@@ -128,34 +71,6 @@ module _ (e : Entries) (z : Sizes e) (c : ℕ) (h : c < 128) where
     input-at : (i : ℕ) → i < 128 → goodInput (e .held) (e .inputs) i ≡ true
     unfolding goodInputs
     input-at i l = every-at 128 (goodInput (e .held) (e .inputs)) (both .1) i l
-
-    pub player-good : (m : ℕ) (x y : ℤ) → goodEntry m (same x (pos 0) && same y (pos 0)) ≡ true → goodEntries (withPlayer e c m x y) ≡ true
-    unfolding goodPlayers
-    player-good m x y f =
-        let p = goodPlayer (set (e .marks) c m) (set (e .xs) c x) (set (e .ys) c y) in
-        let at : (i : ℕ) → i < 128 → p i ≡ true =
-        λ i l.
-        by-eq i c
-        (λ q. rw (q, mark-set m, x-set x, y-set y) f)
-        (λ q.
-        rw (getD-set-other (e .marks) c i m 0 q, getD-set-other (e .xs) c i x (pos 0) q, getD-set-other (e .ys) c i y (pos 0) q)
-        (player-at i l))
-        (ℕ-discrete i c) in
-        and-both _ _ (every-from 128 p at) (both .1)
-
-    pub input-good : (ns : List ℤ) → goodEntries (withInput e c 1 ns) ≡ true
-    unfolding goodInputs
-    input-good ns =
-        let p = goodInput (set (e .held) c 1) (putTen (e .inputs) c ns) in
-        let at : (i : ℕ) → i < 128 → p i ≡ true =
-        λ i l.
-        by-eq i c
-        (λ q. rw (q, held-set 1))
-        (λ q.
-        rw (getD-set-other (e .held) c i 1 0 q, zeros-off (e .inputs) (z .inputs) c h ns i q)
-        (input-at i l))
-        (ℕ-discrete i c) in
-        and-both _ _ (both .0) (every-from 128 p at)
 
     -- a player who was absent
     pub absent-back : (x y : ℤ) → eqb (getD (e .marks) c 0) 1 ≡ false → withPlayer (withPlayer e c 1 x y) c 0 (pos 0) (pos 0) ≡ e

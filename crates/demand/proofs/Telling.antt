@@ -1,11 +1,11 @@
 -- What the events tell of the entries is kept by each event. Assumes nothing.
 use Prim.Native.Nat.{ℕ, _+_, _<_}
 use mathlib.Core.Path.{_≡_, refl, sym, _∙_, ap}
-use mathlib.Core.Bool.{true, false, cond, false≢true}
+use mathlib.Core.Bool.{Bool, true, false, cond, false≢true}
 use mathlib.Core.List.{List, _∷_}
 use native.Mathlib.Omega.{arith}
 use native.Mathlib.Decide.{ℕ-discrete}
-use lib.ListN.{getD, set}
+use lib.ListN.{getD, set, take}
 use lib.Seq.{getD-set-other}
 use lib.Dec.{eqb}
 use lib.IntN.{ℤ, pos, negsuc, _+ℤ_, +ℤ-assoc, +ℤ-idr}
@@ -15,14 +15,16 @@ use mir.Val.{SFits}
 use Rattle.num.specs.Wrap.{wrap32}
 use Rattle.state.specs.State.{same, present, xOf, yOf, withPlayer, withInput}
 use Rattle.state.specs.Reading.{Event, playerNew, playerChange, playerOld}
+use Rattle.state.specs.Laws.{Sizes}
 use Rattle.state.specs.declared.Entries.{Entries}
+use Rattle.calls.specs.Calls.{Seen}
 use Rattle.demand.specs.Demand.{
-  Seen,
   News,
   nothing,
   came,
   changed,
   left,
+  newsOf,
   about,
   presentAfter,
   isPresent,
@@ -40,10 +42,11 @@ use Rattle.demand.specs.Demand.{
 }
 use Rattle.demand.proofs.Wrap.{wrap-fits, wrap-add}
 use Rattle.demand.proofs.Tests.{same-refl}
-use Rattle.demand.proofs.Entries.{Sizes, mark-set, x-set, y-set, players-set}
+use Rattle.demand.proofs.Entries.{mark-set, x-set, y-set, players-set}
 
-abbrev pub seen : Event → List ℤ → List ℤ → List ℕ → Seen
-seen e ten former used = record { event = e; ten = ten; former = former; used = used }
+-- an event beside which ten numbers and former ones stand
+abbrev pub seen : Bool → List ℕ → ℕ → Event → List ℤ → List ℤ → Seen
+seen pending w n e ten former = record { event = e; window = w; used = n; pending = pending; ten = ten; former = former }
 
 -- a start and a sum of differences, added
 abbrev at : ℤ × ℤ → ℤ × ℤ → ℤ × ℤ
@@ -59,8 +62,8 @@ told-input e c m ns h t =
     }
 
 -- an event of no player
-pub told-other : (e : Entries) (s : Seen) (h : List Seen) → ((c : ℤ) → about c (s .event) ≡ nothing)
-    → isNew (s .event) ≡ 0 → isOld (s .event) ≡ 0 → Told e h → Told e (s ∷ h)
+pub told-other : (e : Entries) (s : Seen) (h : List Seen) → ((c : ℤ) → about c s ≡ nothing)
+    → isNew (newsOf (s .event)) ≡ 0 → isOld (newsOf (s .event)) ≡ 0 → Told e h → Told e (s ∷ h)
 unfolding count isPresent start differences
 told-other e s h n a b t =
     record {
@@ -71,11 +74,11 @@ told-other e s h n a b t =
 
 -- an event of client k, which leaves the mark m at x, y
 module _ (e : Entries) (z : Sizes e) (k : ℕ) (hk : k < 128) (h : List Seen) (t : Told e h) (s : Seen) (n : News)
-    (shape : (c : ℤ) → about c (s .event) ≡ cond (same c (pos k)) n nothing) (m : ℕ) (x y : ℤ) where
-  own : about (pos k) (s .event) ≡ n
+    (shape : (c : ℤ) → about c s ≡ cond (same c (pos k)) n nothing) (m : ℕ) (x y : ℤ) where
+  own : about (pos k) s ≡ n
   own = shape (pos k) ∙ rw (same-refl (pos k))
 
-  others : (c : ℕ) → (c ≡ k → ⊥) → about (pos c) (s .event) ≡ nothing
+  others : (c : ℕ) → (c ≡ k → ⊥) → about (pos c) s ≡ nothing
   others c ne = shape (pos c) ∙ rw (ne-eqb c k ne)
 
   has : (c : ℕ) → eqb m 1 ≡ presentAfter n (isPresent (pos k) h) → Dec (c ≡ k) → present (withPlayer e k m x y) c ≡ isPresent (pos c) (s ∷ h)
@@ -85,7 +88,7 @@ module _ (e : Entries) (z : Sizes e) (k : ℕ) (hk : k < 128) (h : List Seen) (t
 
   stands : (c : ℕ)
       → (presentAfter n (isPresent (pos k) h) ≡ true
-      → _≡_ {A = ℤ × ℤ} (x, y) (at (startAfter n (start (pos k) h)) (sumAfter n (difference (s .used)) (differences (pos k) h))))
+      → _≡_ {A = ℤ × ℤ} (x, y) (at (startAfter n (start (pos k) h)) (sumAfter n (difference (take (s .used) (s .window))) (differences (pos k) h))))
       → Dec (c ≡ k) → isPresent (pos c) (s ∷ h) ≡ true
       → positionOn (withPlayer e k m x y) (pos c) ≡ at (start (pos c) (s ∷ h)) (differences (pos c) (s ∷ h))
   unfolding isPresent start differences
@@ -95,7 +98,7 @@ module _ (e : Entries) (z : Sizes e) (k : ℕ) (hk : k < 128) (h : List Seen) (t
 
   told-player : eqb m 1 ≡ presentAfter n (isPresent (pos k) h)
       → (presentAfter n (isPresent (pos k) h) ≡ true
-      → _≡_ {A = ℤ × ℤ} (x, y) (at (startAfter n (start (pos k) h)) (sumAfter n (difference (s .used)) (differences (pos k) h))))
+      → _≡_ {A = ℤ × ℤ} (x, y) (at (startAfter n (start (pos k) h)) (sumAfter n (difference (take (s .used) (s .window))) (differences (pos k) h))))
       → players (set (e .marks) k m) + count isOld (s ∷ h) ≡ count isNew (s ∷ h)
       → Told (withPlayer e k m x y) (s ∷ h)
   unfolding isPresent start differences
@@ -117,35 +120,35 @@ pair : {a b x y : ℤ} → a ≡ x → b ≡ y → _≡_ {A = ℤ × ℤ} (a, b)
 pair p q = rw (p, q)
 
 -- the three events of a client k
-module _ (e : Entries) (z : Sizes e) (k : ℕ) (hk : k < 128) (h : List Seen) (t : Told e h) (ten former : List ℤ) (used : List ℕ) where
+module _ (e : Entries) (z : Sizes e) (k : ℕ) (hk : k < 128) (h : List Seen) (t : Told e h) (pending : Bool) (w : List ℕ) (n : ℕ) (ten former : List ℤ) where
   was : eqb (getD (e .marks) k 0) 1 ≡ true → isPresent (pos k) h ≡ true
   was p = sym (t .presence (pos k)) ∙ rw (lt-ltb k 128 hk) p
 
   pub told-new : (x y : ℤ) → eqb (getD (e .marks) k 0) 1 ≡ false → SFits w32 x → SFits w32 y
-      → Told (withPlayer e k 1 x y) (seen (playerNew (pos k) x y) ten former used ∷ h)
+      → Told (withPlayer e k 1 x y) (seen pending w n (playerNew (pos k) x y) ten former ∷ h)
   unfolding count
   told-new x y a fx fy =
-      told-player e z k hk h t (seen (playerNew (pos k) x y) ten former used) (came x y) (λ c. refl) 1 x y
+      told-player e z k hk h t (seen pending w n (playerNew (pos k) x y) ten former) (came (pos k) x y) (λ c. refl) 1 x y
       refl
       (λ q. pair (still x fx) (still y fy))
       (let l = rw a at (players-set (e .marks) k 1 (omega (arith, z .marks))) in omega (arith, t .number))
 
   pub told-old : (x y : ℤ) → eqb (getD (e .marks) k 0) 1 ≡ true
-      → Told (withPlayer e k 0 (pos 0) (pos 0)) (seen (playerOld (pos k) x y) ten former used ∷ h)
+      → Told (withPlayer e k 0 (pos 0) (pos 0)) (seen pending w n (playerOld (pos k) x y) ten former ∷ h)
   unfolding count
   told-old x y a =
-      told-player e z k hk h t (seen (playerOld (pos k) x y) ten former used) left (λ c. refl) 0 (pos 0) (pos 0)
+      told-player e z k hk h t (seen pending w n (playerOld (pos k) x y) ten former) (left (pos k)) (λ c. refl) 0 (pos 0) (pos 0)
       refl
       (λ q. absurd (false≢true q))
       (let l = rw a at (players-set (e .marks) k 0 (omega (arith, z .marks))) in omega (arith, t .number))
 
-  pub told-change : (dx dy : ℤ) → eqb (getD (e .marks) k 0) 1 ≡ true → difference used ≡ (dx, dy)
+  pub told-change : (dx dy : ℤ) → eqb (getD (e .marks) k 0) 1 ≡ true → difference (take n w) ≡ (dx, dy)
       → (x y : ℤ) → x ≡ wrap32 (xOf e k +ℤ dx) → y ≡ wrap32 (yOf e k +ℤ dy)
-      → Told (withPlayer e k 1 x y) (seen (playerChange (pos k) x y (xOf e k) (yOf e k)) ten former used ∷ h)
+      → Told (withPlayer e k 1 x y) (seen pending w n (playerChange (pos k) x y (xOf e k) (yOf e k)) ten former ∷ h)
   unfolding count
   told-change dx dy a d x y ex ey =
       let p = t .position (pos k) (was a) in
-      told-player e z k hk h t (seen (playerChange (pos k) x y (xOf e k) (yOf e k)) ten former used) changed (λ c. refl) 1 x y
+      told-player e z k hk h t (seen pending w n (playerChange (pos k) x y (xOf e k) (yOf e k)) ten former) (changed (pos k)) (λ c. refl) 1 x y
       (sym (was a))
       (λ q.
       rw d

@@ -1,6 +1,6 @@
 -- The ten numbers of a client among the 1280: put in, got back, the others not touched. Assumes nothing.
 use Prim.Native.Nat.{ℕ, zero, suc, _+_, _*_, _-_, _≤_, _<_}
-use mathlib.Core.Path.{_≡_, refl, sym, _∙_, ap}
+use mathlib.Core.Path.{_≡_, refl, sym, _∙_}
 use mathlib.Core.Bool.{true}
 use mathlib.Core.List.{List, [], _∷_, map}
 use native.Mathlib.Omega.{arith}
@@ -10,8 +10,8 @@ use lib.Seq.{getD-set-same, getD-set-other, ext-getD}
 use lib.IntN.{ℤ, pos}
 use Rattle.num.proofs.Cases.{by-eq}
 use Rattle.fields.specs.Views.{zeros}
-use Rattle.state.specs.State.{same, tenOf, puts, putTen, zeroAt, tenZeros}
-use Rattle.demand.proofs.Tests.{same-true, every-at, every-same}
+use Rattle.state.specs.State.{tenOf, puts, putTen, zeroAt, tenZeros}
+use Rattle.demand.proofs.Tests.{same-true, every-at}
 
 -- n places from k on
 abbrev from : ℕ → ℕ → List ℕ
@@ -83,12 +83,6 @@ module _ (l : List ℤ) (size : length l ≡ 1280) (c : ℕ) (h : c < 128) (ns :
   ten-put ten =
       ext-getD (pos 0) (tenOf (putTen l c ns) c) ns (ten-length _ c ∙ sym ten)
       (λ i b. let d : i < 10 = omega (arith, ten-length (putTen l c ns) c) in ten-at (putTen l c ns) c i d ∙ put-on i d)
-
-  -- those of another client
-  pub zeros-off : (d : ℕ) → (d ≡ c → ⊥) → tenZeros (putTen l c ns) d ≡ tenZeros l d
-  unfolding tenZeros
-  zeros-off d ne =
-      every-same 10 (λ i b. ap (λ v. same v (pos 0)) (put-off (10 * d + i) (λ k r e. omega arith)))
 
 pub put-back : (l : List ℤ) (size : length l ≡ 1280) (c : ℕ) (h : c < 128) (ns : List ℤ) → putTen (putTen l c ns) c (tenOf l c) ≡ l
 put-back l size c h ns =

@@ -50,16 +50,6 @@ every-at (suc n) p e i h = go (every-at n p (and-true (p n) (every n p) e .1) i)
     go f (yes q) = rw q (and-true (p n) (every n p) e .0)
     go f (no q) = f (omega arith)
 
-pub every-from : (n : ℕ) (p : ℕ → Bool) → ((i : ℕ) → i < n → p i ≡ true) → every n p ≡ true
-unfolding every
-every-from zero p f = refl
-every-from (suc n) p f = and-both (p n) (every n p) (f n (omega arith)) (every-from n p (λ i h. f i (omega arith)))
-
-pub every-same : (n : ℕ) {p q : ℕ → Bool} → ((i : ℕ) → i < n → p i ≡ q i) → every n p ≡ every n q
-unfolding every
-every-same zero f = refl
-every-same (suc n) f = rw (f n (omega arith), every-same n (λ i h. f i (omega arith)))
-
 -- a good entry whose mark is not 1 is blank
 pub blank : (m : ℕ) (t : Bool) → goodEntry m t ≡ true → eqb m 1 ≡ false → (m ≡ 0) × (t ≡ true)
 blank m t g e =

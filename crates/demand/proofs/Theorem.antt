@@ -3,22 +3,18 @@ use Prim.Native.Nat.{ℕ, zero, suc, _+_}
 use mathlib.Core.Path.{_≡_, refl, _∙_, ap}
 use mathlib.Core.Bool.{Bool, true, false, _&&_, false≢true}
 use mathlib.Core.List.{List, [], _∷_, _++_, append-assoc, append-nil}
-use lib.ListN.{getD, replicate, length-replicate}
+use lib.ListN.{getD, replicate}
 use lib.Dec.{ltb}
 use lib.IntN.{ℤ, pos, negsuc}
 use Rattle.kinds.specs.declared.Version.{Version}
 use Rattle.state.specs.State.{noEntries, emptyReader}
+use Rattle.state.specs.Laws.{Sizes}
 use Rattle.state.specs.declared.Reader.{Reader}
+use Rattle.state.proofs.Board.{none-sizes}
 use Rattle.back.specs.Board.{boardOf}
 use Rattle.back.specs.Back.{Back, was}
+use Rattle.calls.specs.Calls.{Call, call, next, Seen, isPending, eventOf, after, events}
 use Rattle.demand.specs.Demand.{
-  Call,
-  call,
-  next,
-  Seen,
-  seenIn,
-  after,
-  events,
   is13,
   meets13,
   backOne,
@@ -31,7 +27,6 @@ use Rattle.demand.specs.Demand.{
   Demand3,
 }
 use Rattle.demand.proofs.Tests.{or-false}
-use Rattle.demand.proofs.Entries.{Sizes}
 use Rattle.demand.proofs.Steps.{Good}
 use Rattle.demand.proofs.Calls.{fair-call}
 
@@ -63,11 +58,11 @@ record Inv (r : Reader) (h : List Seen) : Type 0 where
   told : Told (r .entries) h
 
 module _ {r : Reader} {h : List Seen} (i : Inv r h) (c : Call) (cs : List Call) (e : meets13 r (c ∷ cs) ≡ false) where
-  first : Good (boardOf r) h (c .window) (call r c)
+  first : Good (boardOf r) h (isPending (r .scalars .pending)) (c .window) (call r c)
   unfolding meets13
   first = fair-call r h (c .window) (c .last) (i .sizes) (i .told) (or-false (is13 (call r c .said)) (meets13 (next r c) cs) e .0)
 
-  first-kept : Inv (next r c) (seenIn (call r c .said) (call r c) (c .window) ++ h)
+  first-kept : Inv (next r c) (eventOf r c ++ h)
   first-kept = record { sizes = first .sizes; told = first .told }
 
   others : meets13 (next r c) cs ≡ false
@@ -84,7 +79,7 @@ had-back : (cs : List Call) {r : Reader} {h : List Seen} → Inv r h → meets13
 unfolding after events backOver
 had-back [] i e = refl
 had-back (c ∷ cs) {r} i e =
-    let seen = seenIn (call r c .said) (call r c) (c .window) in
+    let seen = eventOf r c in
     back-append (was (boardOf (after (next r c) cs))) (events (next r c) cs) seen
     ∙ ap (λ (a : Back). backOver a seen) (had-back cs (first-kept i c cs e) (others i c cs e))
     ∙ first i c cs e .back
@@ -113,20 +108,9 @@ empty-told : Told noEntries []
 unfolding noEntries count isPresent
 empty-told = record { number = no-players; presence = nobody; position = λ c e. absurd (false≢true e) }
 
-empty-sizes : Sizes noEntries
-unfolding noEntries
-empty-sizes =
-    record {
-      marks = length-replicate {A = ℕ} 128 0;
-      xs = length-replicate 128 (pos 0);
-      ys = length-replicate 128 (pos 0);
-      held = length-replicate {A = ℕ} 128 0;
-      inputs = length-replicate 1280 (pos 0);
-    }
-
 empty-inv : (v : Version) → Inv (emptyReader v) []
 unfolding emptyReader
-empty-inv v = record { sizes = empty-sizes; told = empty-told }
+empty-inv v = record { sizes = none-sizes; told = empty-told }
 
 -- ---- the demand
 

@@ -1,4 +1,4 @@
--- Demand 3, over the definitions of one reading call (crate state) and one step back (crate back).
+-- Demand 3, over the definitions of reading calls (crates state and calls) and one step back (crate back).
 use Prim.Native.Nat.{ℕ, zero, suc, _+_}
 use mathlib.Core.Path.{_≡_}
 use mathlib.Core.Bool.{Bool, true, false, cond, _||_}
@@ -22,50 +22,14 @@ use Rattle.state.specs.Reading.{
   playerOld,
   input,
   other,
-  Step,
-  readCall,
-  readerAfter,
 }
 use Rattle.state.specs.declared.Entries.{Entries}
 use Rattle.state.specs.declared.Reader.{Reader}
+use Rattle.calls.specs.Calls.{Call, call, next, Seen, after, events}
 use Rattle.back.specs.Board.{boardOf}
 use Rattle.back.specs.Back.{Back, was, refused, stepBack}
 
--- ---- a list of reading calls, each on the reader that the last one left
-
-pub record Call : Type 0 where
-  pub window : List ℕ
-  pub last : Bool
-
-abbrev pub call : Reader → Call → Step
-call r c = readCall r (c .window) (c .last)
-
-abbrev pub next : Reader → Call → Reader
-next r c = readerAfter (call r c)
-
--- an event, its ten numbers and the former ten, and the bytes used by the call that gave it
-pub record Seen : Type 0 where
-  pub event : Event
-  pub ten : List ℤ
-  pub former : List ℤ
-  pub used : List ℕ
-
--- a call answered more, finish or a refusal gives no event
-abbrev pub seenIn : Said Event → Step → List ℕ → List Seen
-seenIn (gives e n) t w =
-    record { event = e; ten = t .memory .input; former = t .memory .former; used = take n w } ∷ []
-seenIn more t w = []
-seenIn (finish n) t w = []
-seenIn (refuses n vs) t w = []
-
--- the reader after the calls; their events, the last first; whether one of the calls is refused 13
-unfoldable pub after : Reader → List Call → Reader
-after r [] = r
-after r (c ∷ cs) = after (next r c) cs
-
-unfoldable pub events : Reader → List Call → List Seen
-events r [] = []
-events r (c ∷ cs) = events (next r c) cs ++ seenIn (call r c .said) (call r c) (c .window)
+-- ---- calls of which one is refused 13; reader and events after a list of calls: after, events (the last first)
 
 abbrev pub is13 : Said Event → Bool
 is13 (gives e n) = false
@@ -89,42 +53,53 @@ backOver a (s ∷ l) = backOver (backOne a s) l
 
 -- ---- what the events, the last first, say of a client
 
+-- a client came, and where; changed its place; left
 pub data News : Type 0 where
   nothing : News
-  came : ℤ → ℤ → News
-  changed : News
-  left : News
+  came : ℤ → ℤ → ℤ → News
+  changed : ℤ → News
+  left : ℤ → News
 
-abbrev pub about : ℤ → Event → News
-about c (tickStart t) = nothing
-about c (tickEnd t) = nothing
-about c (playerNew d x y) = cond (same c d) (came x y) nothing
-about c (playerChange d x y old-x old-y) = cond (same c d) changed nothing
-about c (playerOld d x y) = cond (same c d) left nothing
-about c (input d had) = nothing
-about c (other r) = nothing
+abbrev pub newsOf : Event → News
+newsOf (tickStart t) = nothing
+newsOf (tickEnd t) = nothing
+newsOf (playerNew c x y) = came c x y
+newsOf (playerChange c x y old-x old-y) = changed c
+newsOf (playerOld c x y) = left c
+newsOf (input c had) = nothing
+newsOf (other r) = nothing
+
+-- one client's
+abbrev pub only : ℤ → News → News
+only c nothing = nothing
+only c (came d x y) = cond (same c d) (came d x y) nothing
+only c (changed d) = cond (same c d) (changed d) nothing
+only c (left d) = cond (same c d) (left d) nothing
+
+abbrev pub about : ℤ → Seen → News
+about c s = only c (newsOf (s .event))
 
 -- present: the last PlayerNew or PlayerOld event of the client is PlayerNew
 abbrev pub presentAfter : News → Bool → Bool
 presentAfter nothing before = before
-presentAfter (came x y) before = true
-presentAfter changed before = before
-presentAfter left before = false
+presentAfter (came d x y) before = true
+presentAfter (changed d) before = before
+presentAfter (left d) before = false
 
 unfoldable pub isPresent : ℤ → List Seen → Bool
 isPresent c [] = false
-isPresent c (s ∷ l) = presentAfter (about c (s .event)) (isPresent c l)
+isPresent c (s ∷ l) = presentAfter (about c s) (isPresent c l)
 
 -- the start: that event's x, y
 abbrev pub startAfter : News → ℤ × ℤ → ℤ × ℤ
 startAfter nothing before = before
-startAfter (came x y) before = (x, y)
-startAfter changed before = before
-startAfter left before = before
+startAfter (came d x y) before = (x, y)
+startAfter (changed d) before = before
+startAfter (left d) before = before
 
 unfoldable pub start : ℤ → List Seen → ℤ × ℤ
 start c [] = (pos 0, pos 0)
-start c (s ∷ l) = startAfter (about c (s .event)) (start c l)
+start c (s ∷ l) = startAfter (about c s) (start c l)
 
 -- dx, dy of a PlayerChange: the last two integers in the bytes used
 abbrev pub withRest : IntRead → (ℕ → List ℤ) → List ℤ
@@ -146,38 +121,32 @@ difference s = lastTwo (integers (length s) s 0)
 
 -- the sums of the differences since the start
 abbrev pub sumAfter : News → ℤ × ℤ → ℤ × ℤ → ℤ × ℤ
-sumAfter nothing d before = before
-sumAfter (came x y) d before = (pos 0, pos 0)
-sumAfter changed d before = (before .0 +ℤ d .0, before .1 +ℤ d .1)
-sumAfter left d before = before
+sumAfter nothing by before = before
+sumAfter (came d x y) by before = (pos 0, pos 0)
+sumAfter (changed d) by before = (before .0 +ℤ by .0, before .1 +ℤ by .1)
+sumAfter (left d) by before = before
 
 unfoldable pub differences : ℤ → List Seen → ℤ × ℤ
 differences c [] = (pos 0, pos 0)
-differences c (s ∷ l) = sumAfter (about c (s .event)) (difference (s .used)) (differences c l)
+differences c (s ∷ l) = sumAfter (about c s) (difference (take (s .used) (s .window))) (differences c l)
 
 -- ---- counts
 
-abbrev pub isNew : Event → ℕ
-isNew (tickStart t) = 0
-isNew (tickEnd t) = 0
-isNew (playerNew c x y) = 1
-isNew (playerChange c x y old-x old-y) = 0
-isNew (playerOld c x y) = 0
-isNew (input c had) = 0
-isNew (other r) = 0
+abbrev pub isNew : News → ℕ
+isNew nothing = 0
+isNew (came d x y) = 1
+isNew (changed d) = 0
+isNew (left d) = 0
 
-abbrev pub isOld : Event → ℕ
-isOld (tickStart t) = 0
-isOld (tickEnd t) = 0
-isOld (playerNew c x y) = 0
-isOld (playerChange c x y old-x old-y) = 0
-isOld (playerOld c x y) = 1
-isOld (input c had) = 0
-isOld (other r) = 0
+abbrev pub isOld : News → ℕ
+isOld nothing = 0
+isOld (came d x y) = 0
+isOld (changed d) = 0
+isOld (left d) = 1
 
-unfoldable pub count : (Event → ℕ) → List Seen → ℕ
+unfoldable pub count : (News → ℕ) → List Seen → ℕ
 count p [] = 0
-count p (s ∷ l) = p (s .event) + count p l
+count p (s ∷ l) = p (newsOf (s .event)) + count p l
 
 -- the players present on a board: the player entries with mark 1
 unfoldable pub players : List ℕ → ℕ

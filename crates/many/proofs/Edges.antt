@@ -13,7 +13,9 @@ use Rattle.state.specs.State.{goodReader}
 use Rattle.state.specs.Reading.{Step, step, openCall, goodCall, memoryOf, readCall, readerAfter}
 use Rattle.state.specs.declared.Reader.{Reader}
 use Rattle.state.proofs.Numbers.{picks-first, picks-second}
-use Rattle.many.specs.Many.{Run, seenBy, before, onSaid, refusedBy, calls, manyCalls, room, Tells}
+use Rattle.calls.specs.Calls.{Run, isPending, seenBy, before, onSaid, along, calls}
+use Rattle.rows.specs.Rows.{room}
+use Rattle.many.specs.Many.{refusedBy, manyCalls, ManyIs}
 use Rattle.many.specs.Stores.{Room, unread}
 use Rattle.many.specs.declared.ManyAnswer.{ManyAnswer}
 use Rattle.many.specs.declared.Stop.the-variants as stops
@@ -23,32 +25,32 @@ pub room-there : (n : ℕ) (rows tens : List ℤ) → n ≡ room rows tens → R
 room-there n rows tens e = record { rows = omega arith; tens = omega arith }
 
 module _ (n : ℕ) (r : Reader) (w : List ℕ) (last : Bool) (rows tens : List ℤ) where
-  pub bad-reader : goodReader r ≡ false → Tells (manyCalls n r w last) rows tens (unread (stops.Refused BadState) r) rows tens
+  pub bad-reader : goodReader r ≡ false → ManyIs (manyCalls n r w last) rows tens (unread (stops.Refused BadState) r) rows tens
   unfolding manyCalls
   bad-reader g = rw g (ended (stops.Refused BadState) _ 0 0 r refl refl (begun (refusedBy BadState r) rows tens))
 
   pub closed-reader : goodReader r ≡ true → r .scalars .closed ≡ true
-      → Tells (manyCalls n r w last) rows tens (unread (stops.Refused Closed) r) rows tens
+      → ManyIs (manyCalls n r w last) rows tens (unread (stops.Refused Closed) r) rows tens
   unfolding manyCalls
   closed-reader g c =
-      subst (λ (run : Run). Tells run rows tens (unread (stops.Refused Closed) r) rows tens)
+      subst (λ (run : Run). ManyIs run rows tens (unread (stops.Refused Closed) r) rows tens)
       (picks-first (r .scalars .closed) _ _ c ∙ picks-first (goodReader r) _ _ g)
       (ended (stops.Refused Closed) _ 0 0 r refl refl (begun (refusedBy Closed r) rows tens))
 
 module _ (r : Reader) (w : List ℕ) (last : Bool) (rows tens rows₁ tens₁ : List ℤ) (answer : ManyAnswer) (n : ℕ) where
   pub open-reader : n ≡ room rows tens → goodReader r ≡ true → r .scalars .closed ≡ false
-      → Tells (calls n r w last) rows tens answer rows₁ tens₁
-      → Tells (manyCalls (room rows tens) r w last) rows tens answer rows₁ tens₁
+      → ManyIs (calls n r w last) rows tens answer rows₁ tens₁
+      → ManyIs (manyCalls (room rows tens) r w last) rows tens answer rows₁ tens₁
   unfolding manyCalls
   open-reader e g c t =
-      subst (λ (run : Run). Tells run rows tens answer rows₁ tens₁)
+      subst (λ (run : Run). ManyIs run rows tens answer rows₁ tens₁)
       (ap (λ (k : ℕ). calls k r w last) e ∙ picks-second (r .scalars .closed) _ _ c ∙ picks-first (goodReader r) _ _ g)
       t
 
 -- with room for a call it is the first call that refuses 17 and 18
 module _ (k : ℕ) (r : Reader) (w : List ℕ) (last : Bool) where
   abbrev follow : Step → Run
-  follow t = onSaid (t .said) (λ e n. before (seenBy r t e n) (calls k (readerAfter t) (drop n w) last)) (readerAfter t)
+  follow t = onSaid (t .said) (λ e n. before (seenBy (isPending (r .scalars .pending)) w t e n) (calls k (readerAfter t) (drop n w) last)) (readerAfter t)
 
   abbrev refuses : Refusal → Step
   refuses why = step (refusing why) (r .scalars) (memoryOf (r .entries))
@@ -61,7 +63,7 @@ module _ (k : ℕ) (r : Reader) (w : List ℕ) (last : Bool) where
   tested-first false closed t = refl
 
   room-for-one : manyCalls (suc k) r w last ≡ calls (suc k) r w last
-  unfolding manyCalls calls readCall goodCall
+  unfolding manyCalls along readCall goodCall
   room-for-one = tested-first (goodReader r) (r .scalars .closed) (openCall (r .scalars) (memoryOf (r .entries)) w last)
 
 pub with-room : (n : ℕ) (r : Reader) (w : List ℕ) (last : Bool) → 0 < n → manyCalls n r w last ≡ calls n r w last

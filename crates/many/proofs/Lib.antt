@@ -1,5 +1,3 @@
-pub mod Puts
-pub mod Frame
 pub mod Slims
 pub mod Runs
 pub mod Turns

@@ -1,5 +1,5 @@
 -- Calls one behind the other: what is done and what is left. Assumes nothing.
-use Prim.Native.Nat.{ℕ, suc, _+_, _*_, _≤_, zero-le}
+use Prim.Native.Nat.{ℕ, suc, _+_, _*_, _/_, _≤_, _<_, zero-le}
 use mathlib.Core.Path.{_≡_, refl, sym, ap, subst, _∙_}
 use mathlib.Core.Bool.{Bool}
 use mathlib.Core.List.{List}
@@ -23,34 +23,16 @@ use Rattle.state.specs.declared.Outcome.{Outcome}
 use Rattle.state.proofs.Every.{by-cond}
 use Rattle.state.proofs.Numbers.{picks-first}
 use Rattle.state.proofs.Theorems.{open-call-keeps, readers-stay-sound}
-use Rattle.many.specs.Many.{
-  Seen,
-  Halt,
-  wantsMore,
-  finishes,
-  isRefused,
-  Run,
-  isPending,
-  seenBy,
-  stopped,
-  before,
-  onSaid,
-  calls,
-  flag,
-  eventRow,
-  rowOf,
-  eventTens,
-  tensOf,
-  put,
-  rowsFrom,
-  tensFrom,
-  haltOf,
-  Tells,
-}
-use Rattle.many.specs.Stores.{EventPut}
+use Rattle.calls.specs.Calls.{Seen, Halt, wantsMore, finishes, isRefused, Run, isPending, seenBy, stopped, before, onSaid, along, calls}
+use Rattle.rows.specs.Rows.{flag, eventRow, rowOf, eventTens, tensOf, put, rowsFrom, tensFrom}
+use Rattle.many.specs.Many.{haltOf, ManyIs}
+use Rattle.rows.specs.Stores.{EventPut}
+use Rattle.many.specs.Stores.{Room}
 use Rattle.many.specs.declared.Stop.{Stop}
-use Rattle.many.proofs.Frame.{saidTens, Alike, good-alike}
-use Rattle.many.proofs.Slims.{slim-row, slim-tens, slim-used, Gave, gave, said-more, said-finish, said-refuses}
+use Rattle.rows.proofs.Frame.{saidTens, Alike, good-alike}
+use Rattle.calls.proofs.Slims.{slim-used, Gave, gave, said-more, said-finish, said-refuses}
+use Rattle.rows.proofs.Puts.{placed}
+use Rattle.many.proofs.Slims.{slim-row, slim-tens}
 
 -- ---- a run of which count events with used bytes are done, and rest is left
 
@@ -81,7 +63,7 @@ module _ {run : Run} {count used : ℕ} {rows₀ tens₀ rows₁ tens₁ : List 
 
   pub ended : (stop : Stop) (h : Halt) (n u : ℕ) (r : Reader) → haltOf stop ≡ h → u ≡ used + n
       → Behind run (stopped h n r) count used rows₀ tens₀ rows₁ tens₁
-      → Tells run rows₀ tens₀ (record { stop = stop; count = count; used = u; reader = r }) rows₁ tens₁
+      → ManyIs run rows₀ tens₀ (record { stop = stop; count = count; used = u; reader = r }) rows₁ tens₁
   unfolding rowsFrom tensFrom
   ended stop h n u r e f b =
       record {
@@ -126,12 +108,12 @@ module _ (s : Scalars) (m : Memory) (w : List ℕ) (last : Bool) (sound : Sound 
 
     -- by what the call says
     by-said : (k : ℕ) (x : Said Event) → readCall (readerOf s m) w last .said ≡ x → calls (suc k) (readerOf s m) w last
-        ≡ onSaid x (λ d n. before (seenBy (readerOf s m) (readCall (readerOf s m) w last) d n) (calls k (readerOf (o .scalars) m') (drop n w) last))
+        ≡ onSaid x (λ d n. before (seenBy (isPending (s .pending)) w (readCall (readerOf s m) w last) d n) (calls k (readerOf (o .scalars) m') (drop n w) last))
         (readerOf (o .scalars) m')
-    unfolding calls
+    unfolding along
     by-said k x h =
         λ i. onSaid (h i)
-        (λ d n. before (seenBy (readerOf s m) (readCall (readerOf s m) w last) d n) (calls k (sym left-is i) (drop n w) last))
+        (λ d n. before (seenBy (isPending (s .pending)) w (readCall (readerOf s m) w last) d n) (calls k (sym left-is i) (drop n w) last))
         (sym left-is i)
 
     pub ends-more : (k : ℕ) → o .answer ≡ answers.More → calls (suc k) (readerOf s m) w last ≡ stopped wantsMore 0 (readerOf (o .scalars) m')
@@ -149,7 +131,7 @@ module _ (s : Scalars) (m : Memory) (w : List ℕ) (last : Bool) (sound : Sound 
       given = gave _ (eventIs v) n (said-is ∙ ap saidIs a)
 
       abbrev seen : Seen
-      seen = seenBy (readerOf s m) (readCall (readerOf s m) w last) (given .event) n
+      seen = seenBy (isPending (s .pending)) w (readCall (readerOf s m) w last) (given .event) n
 
       row-is : rowOf seen ≡ eventRow (eventIs v) (wrap32 (pos n)) (flag (isPending (s .pending)))
       unfolding rowOf
@@ -168,8 +150,10 @@ module _ (s : Scalars) (m : Memory) (w : List ℕ) (last : Bool) (sound : Sound 
           ∙ ap (λ (d : Event). eventTens d (m' .input) (m' .former)) (given .own)
 
       pub goes-on : {run : Run} {count used : ℕ} {rows₀ tens₀ rows₁ tens₁ : List ℤ} (k : ℕ) (rows₂ tens₂ : List ℤ)
-          → Behind run (calls (suc k) (readerOf s m) w last) count used rows₀ tens₀ rows₁ tens₁
+          → Room (count + 1) rows₁ tens₁ → Behind run (calls (suc k) (readerOf s m) w last) count used rows₀ tens₀ rows₁ tens₁
           → EventPut (eventIs v) n (flag (isPending (s .pending))) count (m' .input) (m' .former) rows₁ tens₁ rows₂ tens₂
           → Behind run (calls k (readerOf (o .scalars) m') (drop n w) last) (count + 1) (used + n) rows₀ tens₀ rows₂ tens₂
-      goes-on k rows₂ tens₂ b p =
-          rw (p .rows, p .tens, ← row-is, ← tens-are) (one-more seen _ (rw (by-said k _ (given .said)) at b))
+      goes-on {count = count} {rows₁ = rows₁} {tens₁ = tens₁} k rows₂ tens₂ room b p =
+          let x : count < length rows₁ / 8 = omega (arith, room .rows) in
+          let y : count < length tens₁ / 20 = omega (arith, room .tens) in
+          rw (p .rows ∙ placed 8 count _ rows₁ x, p .tens ∙ placed 20 count _ tens₁ y, ← row-is, ← tens-are) (one-more seen _ (rw (by-said k _ (given .said)) at b))

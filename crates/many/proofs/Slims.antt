@@ -1,17 +1,13 @@
--- An event without the arguments that stand beside a command has the same row and the same twenty numbers, and its call uses as many bytes. Assumes nothing.
-use Prim.Native.Nat.{ℕ}
+-- An event without the arguments that stand beside a command has the same row and the same twenty numbers. Assumes nothing.
 use mathlib.Core.Path.{_≡_, refl, ap}
 use mathlib.Core.List.{List}
-use native.Mathlib.Omega.{arith}
 use lib.IntN.{ℤ, pos}
-use Rattle.item.specs.Said.{Said, gives, more, finish, refuses}
 use Rattle.item.specs.Contents.{tagNumber}
 use Rattle.kinds.specs.declared.Cid.{Cid}
 use Rattle.state.specs.Reading.{Event, tickStart, tickEnd, playerNew, playerChange, playerOld, input, other}
-use Rattle.state.specs.Views.{slim, slimSaid}
-use Rattle.state.specs.Laws.{usedIn}
+use Rattle.state.specs.Views.{slim}
 use Rattle.step.proofs.Others.{cid-own}
-use Rattle.many.specs.Many.{hasClient, clientOr0, row, eventRow, eventTens}
+use Rattle.rows.specs.Rows.{hasClient, clientOr0, eight, eventRow, eventTens}
 
 pub slim-row : (e : Event) (n p : ℤ) → eventRow (slim e) n p ≡ eventRow e n p
 slim-row (tickStart t) n p = refl
@@ -20,7 +16,7 @@ slim-row (playerNew c x y) n p = refl
 slim-row (playerChange c x y old-x old-y) n p = refl
 slim-row (playerOld c x y) n p = refl
 slim-row (input c former) n p = refl
-slim-row (other r) n p = ap (λ (c : Cid). row 7 n (tagNumber (r .tag)) (hasClient c) (clientOr0 c) p (pos 0)) (cid-own r)
+slim-row (other r) n p = ap (λ (c : Cid). eight 7 n (tagNumber (r .tag)) (hasClient c) (clientOr0 c) p (pos 0)) (cid-own r)
 
 pub slim-tens : (e : Event) (ten former : List ℤ) → eventTens (slim e) ten former ≡ eventTens e ten former
 slim-tens (tickStart t) ten former = refl
@@ -30,40 +26,3 @@ slim-tens (playerChange c x y old-x old-y) ten former = refl
 slim-tens (playerOld c x y) ten former = refl
 slim-tens (input c held) ten former = refl
 slim-tens (other r) ten former = refl
-
-pub slim-used : (x : Said Event) → usedIn (slimSaid x) ≡ usedIn x
-slim-used (gives e n) = refl
-slim-used more = refl
-slim-used (finish n) = refl
-slim-used (refuses k vs) = refl
-
--- ---- what was said, from the same without arguments
-
-pub record Gave (x : Said Event) (e : Event) (n : ℕ) : Type 0 where
-  pub event : Event
-  pub said : x ≡ gives event n
-  pub own : slim event ≡ e
-
-pub gave : (x : Said Event) (e : Event) (n : ℕ) → slimSaid x ≡ gives e n → Gave x e n
-gave (gives d k) e n h = record { event = d; said = cc; own = cc }
-gave more e n h = let z : _≡_ {A = ℕ} 0 1 = cc in absurd (omega arith)
-gave (finish k) e n h = let z : _≡_ {A = ℕ} 0 1 = cc in absurd (omega arith)
-gave (refuses k vs) e n h = let z : _≡_ {A = ℕ} 0 1 = cc in absurd (omega arith)
-
-pub said-more : (x : Said Event) → slimSaid x ≡ more → x ≡ more
-said-more (gives d k) h = cc
-said-more more h = refl
-said-more (finish k) h = cc
-said-more (refuses k vs) h = cc
-
-pub said-finish : (x : Said Event) (n : ℕ) → slimSaid x ≡ finish n → x ≡ finish n
-said-finish (gives d k) n h = cc
-said-finish more n h = cc
-said-finish (finish k) n h = h
-said-finish (refuses k vs) n h = cc
-
-pub said-refuses : (x : Said Event) (n : ℕ) (vs : List ℤ) → slimSaid x ≡ refuses n vs → x ≡ refuses n vs
-said-refuses (gives d k) n vs h = cc
-said-refuses more n vs h = cc
-said-refuses (finish k) n vs h = cc
-said-refuses (refuses k us) n vs h = h

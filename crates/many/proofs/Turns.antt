@@ -16,8 +16,11 @@ use Rattle.state.specs.declared.Scalars.{Scalars}
 use Rattle.state.specs.declared.Event as code
 use Rattle.state.specs.declared.Answer.the-variants as answers
 use Rattle.state.specs.declared.Outcome.{Outcome}
-use Rattle.many.specs.Many.{Run, isPending, calls, flag, Tells}
-use Rattle.many.specs.Stores.{EventPut}
+use Rattle.calls.specs.Calls.{Run, isPending, along, calls}
+use Rattle.rows.specs.Rows.{flag}
+use Rattle.many.specs.Many.{ManyIs}
+use Rattle.rows.specs.Stores.{EventPut}
+use Rattle.many.specs.Stores.{Room}
 use Rattle.many.specs.declared.Stop.the-variants as stops
 use Rattle.many.proofs.Runs.{readerOf, Behind, begun, ended, stays-sound, uses, ends-more, ends-finish, ends-refused, goes-on}
 
@@ -52,8 +55,8 @@ module _ {run : Run} {room : ℕ} {w : List ℕ} {last : Bool} {rows₀ tens₀ 
     {rows₁ tens₁ : List ℤ} (g : Going run room w last rows₀ tens₀ s m count used rows₁ tens₁)
   where
     pub full : room ≤ count
-        → Tells run rows₀ tens₀ (record { stop = stops.Full; count = count; used = used; reader = readerOf s m }) rows₁ tens₁
-    unfolding calls
+        → ManyIs run rows₀ tens₀ (record { stop = stops.Full; count = count; used = used; reader = readerOf s m }) rows₁ tens₁
+    unfolding along
     full h =
         let e : room - count ≡ 0 = omega arith in
         ended stops.Full _ 0 used _ refl (omega arith) (rw e at (g .behind))
@@ -78,31 +81,31 @@ module _ {run : Run} {room : ℕ} {w : List ℕ} {last : Bool} {rows₀ tens₀ 
 
         pub turn : (v : code.Event) (n : ℕ) (rows₂ tens₂ : List ℤ) → o .answer ≡ answers.Event v n
             → EventPut (eventIs v) n (flag (isPending (s .pending))) count (m' .input) (m' .former) rows₁ tens₁ rows₂ tens₂
-            → length rows₂ ≡ length rows₁ → length tens₂ ≡ length tens₁
+            → length rows₂ ≡ length rows₁ → length tens₂ ≡ length tens₁ → Room (count + 1) rows₁ tens₁
             → Going run room w last rows₀ tens₀ (o .scalars) m' (count + 1) (used + n) rows₂ tens₂
         unfolding left
-        turn v n rows₂ tens₂ a p x y =
+        turn v n rows₂ tens₂ a p x y there =
             record {
               most = omega arith;
               within = rw a at fits;
               rows = x ∙ g .rows;
               tens = y ∙ g .tens;
               sound = stays-sound s m (drop used w) last (g .sound) o m' call;
-              behind = rw drop-drop at (goes-on s m (drop used w) last (g .sound) o m' call v n a left rows₂ tens₂ next p);
+              behind = rw drop-drop at (goes-on s m (drop used w) last (g .sound) o m' call v n a left rows₂ tens₂ there next p);
             }
 
         pub more : o .answer ≡ answers.More
-            → Tells run rows₀ tens₀ (record { stop = stops.More; count = count; used = used; reader = readerOf (o .scalars) m' }) rows₁ tens₁
+            → ManyIs run rows₀ tens₀ (record { stop = stops.More; count = count; used = used; reader = readerOf (o .scalars) m' }) rows₁ tens₁
         more a =
             ended stops.More _ 0 used _ refl (omega arith) (rw (ends-more s m (drop used w) last (g .sound) o m' call left a) at next)
 
         pub finish : (n : ℕ) → o .answer ≡ answers.Finish n
-            → Tells run rows₀ tens₀ (record { stop = stops.Finish; count = count; used = used + n; reader = readerOf (o .scalars) m' }) rows₁ tens₁
+            → ManyIs run rows₀ tens₀ (record { stop = stops.Finish; count = count; used = used + n; reader = readerOf (o .scalars) m' }) rows₁ tens₁
         finish n a =
             ended stops.Finish _ n (used + n) _ refl refl (rw (ends-finish s m (drop used w) last (g .sound) o m' call left n a) at next)
 
         pub refused : (r : Refusal) → o .answer ≡ answers.Refused r
-            → Tells run rows₀ tens₀ (record { stop = stops.Refused r; count = count; used = used; reader = readerOf (o .scalars) m' }) rows₁ tens₁
+            → ManyIs run rows₀ tens₀ (record { stop = stops.Refused r; count = count; used = used; reader = readerOf (o .scalars) m' }) rows₁ tens₁
         refused r a =
             ended (stops.Refused r) _ 0 used _ refl (omega arith)
             (rw (ends-refused s m (drop used w) last (g .sound) o m' call left r a) at next)

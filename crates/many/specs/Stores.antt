@@ -1,16 +1,12 @@
--- What the functions inside store and hand over.
+-- Inner: what the functions inside ask for and hand over.
 use Prim.Native.Nat.{ℕ, _*_, _≤_}
-use mathlib.Core.Path.{_≡_}
 use mathlib.Core.List.{List}
 use lib.ListN.{length}
-use lib.IntN.{ℤ, pos}
-use Rattle.num.specs.Wrap.{wrap32}
+use lib.IntN.{ℤ}
 use Rattle.state.specs.State.{readerWith}
-use Rattle.state.specs.Reading.{Event}
 use Rattle.state.specs.declared.Entries.{Entries}
 use Rattle.state.specs.declared.Scalars.{Scalars}
 use Rattle.state.specs.declared.Reader.{Reader}
-use Rattle.many.specs.Many.{eventRow, eventTens, put}
 use Rattle.many.specs.declared.Stop.{Stop}
 use Rattle.many.specs.declared.RowsRead.{RowsRead}
 use Rattle.many.specs.declared.ManyAnswer.{ManyAnswer}
@@ -19,11 +15,6 @@ use Rattle.many.specs.declared.ManyAnswer.{ManyAnswer}
 pub record Room (n : ℕ) (rs ts : List ℤ) : Type 0 where
   pub rows : 8 * n ≤ length rs
   pub tens : 20 * n ≤ length ts
-
--- event i, whose call used so many bytes, is in its places
-pub record EventPut (e : Event) (used : ℕ) (pending : ℤ) (i : ℕ) (ten former rows₀ tens₀ rows₁ tens₁ : List ℤ) : Type 0 where
-  pub rows : rows₁ ≡ put rows₀ (8 * i) (eventRow e (wrap32 (pos used)) pending)
-  pub tens : tens₁ ≡ put tens₀ (20 * i) (eventTens e ten former)
 
 abbrev pub rowsRead : Stop → ℕ → ℕ → Scalars → RowsRead
 rowsRead stop count used s = record { stop = stop; count = count; used = used; scalars = s }

@@ -1,25 +1,16 @@
 // Many reading calls in one: the events as rows of numbers in lent memory.
 ghost use mathlib.Core.Path.{_≡_};
 ghost use mathlib.Core.Bool.{true};
-ghost use mathlib.Core.List.{[], _∷_, _++_};
-ghost use Prim.Native.Nat.{_+_, _*_, _/_, _≤_, min};
-ghost use lib.ListN.{length};
-ghost use lib.IntN.{pos};
-ghost use Rattle.num.specs.Wrap.{wrap32};
-ghost use Rattle.item.specs.Contents.{itemOf};
+ghost use Prim.Native.Nat.{_/_, min};
 ghost use Rattle.state.specs.State.{entriesWith, readerWith, goodReader};
-ghost use Rattle.state.specs.Reading.{other};
-ghost use Rattle.state.specs.Views.{eventIs};
 ghost use Rattle.state.specs.Laws.{Sound};
-ghost use Rattle.many.specs.Many.{calls, manyCalls, flag, isPending, eventRow, put, room, Tells};
-ghost use Rattle.many.specs.Stores.{Room, EventPut, rowsRead, answerOf, unread};
-use item::Item;
-use kinds::Cid;
+ghost use Rattle.calls.specs.Calls.{calls};
+ghost use Rattle.rows.specs.Rows.{room};
+ghost use Rattle.many.specs.Many.{manyCalls, ManyIs};
+ghost use Rattle.many.specs.Stores.{Room, rowsRead, answerOf, unread};
 use refusal::Refusal;
 use state::Answer;
 use state::Entries;
-use state::Event;
-use state::Pending;
 use state::Reader;
 use state::Scalars;
 
@@ -67,123 +58,6 @@ fn room_for(rows: usize, tens: usize) -> usize
     if a < b { a } else { b }
 }
 
-// A number of bytes, modulo 2^32 and signed.
-fn wrapped(n: usize) -> i32
-    ensures { λ r. ⌜ r ≡ wrap32 (pos n) ⌝ }
-{
-    num::signed((n % 4294967296) as u32)
-}
-
-fn flag_of(b: bool) -> i32
-    ensures { λ r. ⌜ r ≡ flag b ⌝ }
-{
-    if b { 1 } else { 0 }
-}
-
-// Whether a kind is pending.
-fn pending_flag(s: Scalars) -> i32
-    ensures { λ r. ⌜ r ≡ flag (isPending (s .pending)) ⌝ }
-{
-    let pending = s.pending;
-    let Pending::Is(_) = pending else {
-        return 0;
-    };
-    1
-}
-
-fn put_row(
-    rows: &mut [i32],
-    at: usize,
-    event: i32,
-    used: i32,
-    a: i32,
-    b: i32,
-    c: i32,
-    d: i32,
-    e: i32,
-)
-    requires { ⌜ at + 8 ≤ length (now rows) ⌝ }
-    ensures { λ _. ⌜ now (rows .exit) ≡ put (now (rows .entry)) at (event ∷ used ∷ a ∷ b ∷ c ∷ d ∷ e ∷ pos 0 ∷ []) ⌝ }
-{
-    rows[at] = event;
-    rows[at + 1] = used;
-    rows[at + 2] = a;
-    rows[at + 3] = b;
-    rows[at + 4] = c;
-    rows[at + 5] = d;
-    rows[at + 6] = e;
-    rows[at + 7] = 0;
-}
-
-// The row of a record that changes no entry.
-fn put_record(item: Item, used: i32, pending: i32, rows: &mut [i32], at: usize)
-    requires { ⌜ at + 8 ≤ length (now rows) ⌝ }
-    ensures { λ _. ⌜ now (rows .exit) ≡ put (now (rows .entry)) at (eventRow (other (itemOf item)) used pending) ⌝ }
-{
-    let kind = item.kind_number();
-    match item.cid() {
-        Cid::Of(c) => put_row(rows, at, 7, used, kind, 1, c, pending, 0),
-        Cid::NoCid => put_row(rows, at, 7, used, kind, 0, 0, pending, 0),
-    }
-}
-
-fn put_ten(tens: &mut [i32], at: usize, ten: [i32; 10])
-    requires { ⌜ at + 10 ≤ length (now tens) ⌝ }
-    ensures { λ _. ⌜ now (tens .exit) ≡ put (now (tens .entry)) at ten ⌝ }
-{
-    let mut k: usize = 0;
-    while k < 10 {
-        let x = ten[k];
-        tens[at + k] = x;
-        k += 1;
-    }
-}
-
-// The ten numbers and the former ten of an input.
-fn put_tens(tens: &mut [i32], at: usize, input: [i32; 10], former: [i32; 10])
-    requires { ⌜ at + 20 ≤ length (now tens) ⌝ }
-    ensures { λ _. ⌜ now (tens .exit) ≡ put (now (tens .entry)) at (input ++ former) ⌝ }
-{
-    put_ten(tens, at, input);
-    put_ten(tens, at + 10, former);
-}
-
-// Event i in its places; used bytes, pending as a number of its row.
-fn put_event(
-    event: Event,
-    used: usize,
-    pending: i32,
-    i: usize,
-    rows: &mut [i32],
-    tens: &mut [i32],
-    input: &[i32; 10],
-    former: &[i32; 10],
-)
-    requires { ⌜ Room (i + 1) (now rows) (now tens) ⌝ }
-    ensures { λ _. ⌜ EventPut (eventIs event) used pending i (now (input .entry)) (now (former .entry)) (now (rows .entry)) (now (tens .entry)) (now (rows .exit)) (now (tens .exit)) ⌝ }
-{
-    let n = wrapped(used);
-    let at = 8 * i;
-    match event {
-        Event::TickStart(t) => put_row(rows, at, 1, n, t, 0, 0, 0, 0),
-        Event::TickEnd(t) => put_row(rows, at, 2, n, t, 0, 0, 0, 0),
-        Event::PlayerNew { cid, x, y } => put_row(rows, at, 3, n, cid, x, y, 0, 0),
-        Event::PlayerChange {
-            cid,
-            x,
-            y,
-            old_x,
-            old_y,
-        } => put_row(rows, at, 4, n, cid, x, y, old_x, old_y),
-        Event::PlayerOld { cid, x, y } => put_row(rows, at, 5, n, cid, x, y, 0, 0),
-        Event::Input { cid, former: had } => {
-            put_row(rows, at, 6, n, cid, flag_of(had), 0, 0, 0);
-            put_tens(tens, 20 * i, *input, *former);
-        }
-        Event::Record(item) => put_record(item, n, pending, rows, at),
-    }
-}
-
 // Calls on lent entries while there is room and they give events. What input and former hold before is never seen.
 fn read_rows(
     scalars: Scalars,
@@ -201,13 +75,13 @@ fn read_rows(
     room: usize,
 ) -> RowsRead
     requires { ⌜ Sound (readerWith scalars (entriesWith (now marks) (now xs) (now ys) (now held) (now inputs))) × Room room (now rows) (now tens) ⌝ }
-    ensures { λ r. ⌜ Tells (calls room (readerWith scalars (entriesWith (now (marks .entry)) (now (xs .entry)) (now (ys .entry)) (now (held .entry)) (now (inputs .entry)))) (now (w .entry)) last) (now (rows .entry)) (now (tens .entry)) (answerOf r (entriesWith (now (marks .exit)) (now (xs .exit)) (now (ys .exit)) (now (held .exit)) (now (inputs .exit)))) (now (rows .exit)) (now (tens .exit)) ⌝ }
+    ensures { λ r. ⌜ ManyIs (calls room (readerWith scalars (entriesWith (now (marks .entry)) (now (xs .entry)) (now (ys .entry)) (now (held .entry)) (now (inputs .entry)))) (now (w .entry)) last) (now (rows .entry)) (now (tens .entry)) (answerOf r (entriesWith (now (marks .exit)) (now (xs .exit)) (now (ys .exit)) (now (held .exit)) (now (inputs .exit)))) (now (rows .exit)) (now (tens .exit)) ⌝ }
 {
     let mut s = scalars;
     let mut count: usize = 0;
     let mut used: usize = 0;
     while count < room {
-        let pending = pending_flag(s);
+        let pending = rows::pending_flag(s);
         let o = step::good_call(
             s,
             marks,
@@ -225,7 +99,7 @@ fn read_rows(
         s = next;
         match answer {
             Answer::Event { event, used: n } => {
-                put_event(event, n, pending, count, rows, tens, input, former);
+                rows::put_event(event, n, pending, count, rows, tens, input, former);
                 used += n;
                 count += 1;
             }
@@ -248,7 +122,7 @@ fn read_good(
     room: usize,
 ) -> ManyAnswer
     requires { ⌜ (goodReader (readerWith scalars entries) ≡ true) × Room room (now rows) (now tens) ⌝ }
-    ensures { λ r. ⌜ Tells (calls room (readerWith scalars entries) (now (window .entry)) last) (now (rows .entry)) (now (tens .entry)) r (now (rows .exit)) (now (tens .exit)) ⌝ }
+    ensures { λ r. ⌜ ManyIs (calls room (readerWith scalars entries) (now (window .entry)) last) (now (rows .entry)) (now (tens .entry)) r (now (rows .exit)) (now (tens .exit)) ⌝ }
 {
     let mut marks = entries.marks;
     let mut xs = entries.xs;
@@ -315,7 +189,7 @@ pub fn read_many(
     rows: &mut [i32],
     tens: &mut [i32],
 ) -> ManyAnswer
-    ensures { λ r. ⌜ Tells (manyCalls (room (now (rows .entry)) (now (tens .entry))) reader (now (window .entry)) last) (now (rows .entry)) (now (tens .entry)) r (now (rows .exit)) (now (tens .exit)) ⌝ }
+    ensures { λ r. ⌜ ManyIs (manyCalls (room (now (rows .entry)) (now (tens .entry))) reader (now (window .entry)) last) (now (rows .entry)) (now (tens .entry)) r (now (rows .exit)) (now (tens .exit)) ⌝ }
 {
     let scalars = reader.scalars;
     let entries = reader.entries;

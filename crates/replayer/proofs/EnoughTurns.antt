@@ -9,11 +9,11 @@ use Rattle.num.proofs.Cases.{by-bool}
 use Rattle.item.specs.Said.{Said, gives, more, finish, refuses}
 use Rattle.state.specs.Reading.{Event, readCall, readerAfter}
 use Rattle.state.specs.declared.Reader.{Reader}
-use Rattle.many.specs.Many.{Seen, Halt, isFull, wantsMore, finishes, isRefused, Run, seenBy, before, onSaid, calls}
+use Rattle.calls.specs.Calls.{isPending, along, Seen, Halt, isFull, wantsMore, finishes, isRefused, Run, seenBy, before, onSaid, calls}
 use Rattle.replayer.specs.Replay.{full, windowOf, isShort, isLast, ends}
 use Rattle.replayer.specs.Laws.{Arrived, some, all, atHand, hasEnded, Turn, runOf, short, over, turnsEnd, haveAll, EnoughTurns}
-use Rattle.replayer.proofs.Longer.{more-leaves, more-not-last, uses-within}
-use Rattle.replayer.proofs.Enough.{rank, rank-le, call-falls}
+use Rattle.calls.proofs.Singles.{uses-within, more-leaves}
+use Rattle.calls.proofs.Ranks.{rank, rank-le, call-falls}
 
 -- what is left falls with each event, where the calls stop for want of room or bytes
 abbrev Left : Halt → ℕ → Run → ℕ → Type 0
@@ -36,21 +36,21 @@ by-said : (r : Reader) (w : List ℕ) (last : Bool) (a : Said Event) → readCal
     → ((e : Event) (n : ℕ) → readCall r w last .said ≡ gives e n → Falls (rank (r .scalars)) (length w) (next e n))
     → Falls (rank (r .scalars)) (length w) (onSaid a next (readerAfter (readCall r w last)))
 by-said r w last (gives e n) s next f = f e n s
-by-said r w last more s next f = let q = ap (λ (z : Reader). rank (z .scalars)) (more-leaves r w last s) in (omega arith, omega arith)
+by-said r w last more s next f = let q = ap (λ (z : Reader). rank (z .scalars)) (more-leaves r w last s .1) in (omega arith, omega arith)
 by-said r w last (finish n) s next f = tt
 by-said r w last (refuses k vs) s next f = tt
 
 pub run-falls : (n : ℕ) (r : Reader) (w : List ℕ) (last : Bool) → Falls (rank (r .scalars)) (length w) (calls n r w last)
-unfolding calls
+unfolding along
 run-falls zero r w last = (omega arith, omega arith)
 run-falls (suc n) r w last =
     let t = readCall r w last in
-    by-said r w last (t .said) refl (λ e m. before (seenBy r t e m) (calls n (readerAfter t) (drop m w) last))
+    by-said r w last (t .said) refl (λ e m. before (seenBy (isPending (r .scalars .pending)) w t e m) (calls n (readerAfter t) (drop m w) last))
     (λ e m s.
     let f : rank (t .scalars) + 1 ≤ rank (r .scalars) + 5 * m = rw s at (call-falls r w last) in
     let u = uses-within r w last e m s in
     let run = calls n (readerAfter t) (drop m w) last in
-    an-event (run .halt) (rank (r .scalars)) (rank (t .scalars)) (length w) m (seenBy r t e m) run f u refl (length (drop m w))
+    an-event (run .halt) (rank (r .scalars)) (rank (t .scalars)) (length w) m (seenBy (isPending (r .scalars .pending)) w t e m) run f u refl (length (drop m w))
     (omega (arith, length-drop m w)) (run-falls n (readerAfter t) (drop m w) last))
 
 -- so no more is left after a turn that does not end the replay
@@ -95,10 +95,10 @@ some-event s (refuses k vs) f x next left h = absurd (false≢true (sym h))
 
 goes-on : (s : Bool) (n : ℕ) (r : Reader) (w : List ℕ) → ends s (calls (suc n) r w s .halt) (length (calls (suc n) r w s .seen)) ≡ false
     → 1 ≤ length (calls (suc n) r w s .seen)
-unfolding calls
+unfolding along
 goes-on s n r w h =
     let t = readCall r w s in
-    some-event s (t .said) (more-not-last r w s) (λ e m. seenBy r t e m) (λ e m. calls n (readerAfter t) (drop m w) s) (readerAfter t) h
+    some-event s (t .said) (λ e. more-leaves r w s e .0) (λ e m. seenBy (isPending (r .scalars .pending)) w t e m) (λ e m. calls n (readerAfter t) (drop m w) s) (readerAfter t) h
 
 -- one, if the turn has all the bytes
 abbrev one : Arrived → ℕ

@@ -1,12 +1,5 @@
-pub mod FromRows
-pub mod Onward
-pub mod Blocks
-pub mod Tens
 pub mod OneTurn
-pub mod Longer
 pub mod Whole
-pub mod Ahead
-pub mod Enough
 pub mod Bound
 pub mod EnoughTurns
 pub mod Rounds

@@ -13,17 +13,23 @@ use Rattle.num.proofs.Cases.{by-bool}
 use Rattle.varint.specs.Written.{written}
 use Rattle.packer.proofs.Joined.{written-length, two-puts}
 use Rattle.state.specs.declared.Reader.{Reader}
-use Rattle.many.specs.Many.{Seen, Halt, isFull, wantsMore, finishes, isRefused, Run, calls, manyCalls, haltOf, room, rowsFrom, tensFrom, Tells}
+use Rattle.calls.specs.Calls.{along, Seen, Halt, isFull, wantsMore, finishes, isRefused, Run}
+use Rattle.calls.specs.Calls.{allOf}
+use Rattle.calls.specs.Laws.{TensBeside}
+use Rattle.calls.proofs.Theorems.{few-events, run-tens}
+use Rattle.rows.specs.Rows.{room, rowsFrom, tensFrom}
+use Rattle.rows.specs.Stores.{AllInRows}
+use Rattle.rows.proofs.Blocks.{all-told, rows-length, tens-length, front-rows, front-tens}
+use Rattle.row_lines.specs.Text.{textOf}
+use Rattle.row_lines.specs.RowLines.{PutsLines}
+use Rattle.row_lines.proofs.Onward.{text-le}
+use Rattle.many.specs.Many.{manyCalls, haltOf, ManyIs}
 use Rattle.many.specs.declared.ManyAnswer.{ManyAnswer}
 use Rattle.many.proofs.Edges.{with-room}
 use Rattle.lines.specs.Lines.{longest, refusedWord}
 use Rattle.lines.specs.Puts.{Puts}
 use Rattle.lines.proofs.Texts.{line-fits}
-use Rattle.replayer.specs.Replay.{full, windowOf, isShort, isLast, textOf, ends, endingOf, wants, runText, turnRoom, turnRun, noTurn, Turns}
-use Rattle.replayer.specs.Rows.{AllTold, PutsLines}
-use Rattle.replayer.proofs.Onward.{text-le}
-use Rattle.replayer.proofs.Blocks.{Tens, all-told, rows-length, tens-length, front-rows, front-tens}
-use Rattle.replayer.proofs.Tens.{few}
+use Rattle.replayer.specs.Replay.{full, windowOf, isShort, isLast, ends, endingOf, wants, runText, turnRoom, turnRun, noTurn, Turns}
 
 -- the window's end is no further than the bytes
 take-least : (l : List ℕ) (c : ℕ) → take (min (length l) c) l ≡ take c l
@@ -55,7 +61,7 @@ module _ (reader : Reader) (bytes : List ℕ) (input-ended : Bool) (rows tens : 
 
   pub nothing : n ≡ 0 → Turns bytes (turnRun (turnRoom rows tens out) reader bytes input-ended) rows tens out
       (noTurn reader) rows tens out
-  unfolding calls textOf rowsFrom tensFrom
+  unfolding along textOf rowsFrom tensFrom
   nothing e =
       let z : turnRoom rows tens out ≡ 0 = sym is ∙ e in
       rw z (record { left = refl; used = refl; filled = refl; ended = refl; wants = refl; out = refl; rows = refl; tens = refl })
@@ -89,18 +95,18 @@ module _ (reader : Reader) (bytes : List ℕ) (input-ended : Bool) (rows tens : 
 
     module _ (m : ManyAnswer) (rows₁ tens₁ : List ℤ) (end : ℕ) (e : end ≡ min (length bytes) full)
         (last : Bool) (f : last ≡ isLast input-ended bytes)
-        (t : Tells (manyCalls (room (take (8 * n) rows) (take (20 * n) tens)) reader (take end bytes) last) (take (8 * n) rows) (take (20 * n) tens) m rows₁ tens₁)
+        (t : ManyIs (manyCalls (room (take (8 * n) rows) (take (20 * n) tens)) reader (take end bytes) last) (take (8 * n) rows) (take (20 * n) tens) m rows₁ tens₁)
       where
-        ran : Tells run (take (8 * n) rows) (take (20 * n) tens) m rows₁ tens₁
+        ran : ManyIs run (take (8 * n) rows) (take (20 * n) tens) m rows₁ tens₁
         ran =
             let some-room : 0 < n = omega arith in
             rw (e, f, room-is, take-least bytes full, with-room n reader (windowOf bytes) (isLast input-ended bytes) some-room) at t
 
         count-le : m .count ≤ n
-        count-le = omega (arith, ran .count, few n reader (windowOf bytes) (isLast input-ended bytes) .0)
+        count-le = omega (arith, ran .count, few-events (allOf (isLast input-ended bytes)) n reader (windowOf bytes) .0)
 
-        tens-beside : Tens seen
-        tens-beside = few n reader (windowOf bytes) (isLast input-ended bytes) .1
+        tens-beside : TensBeside seen
+        tens-beside = run-tens (allOf (isLast input-ended bytes)) n reader (windowOf bytes)
 
         rows-now : rows₁ ++ drop (8 * n) rows ≡ rowsFrom 0 seen rows
         rows-now = rw (ran .rows) (front-rows seen tens-beside (8 * n) rows rows-fit (omega (arith, ran .count, count-le)))
@@ -114,12 +120,12 @@ module _ (reader : Reader) (bytes : List ℕ) (input-ended : Bool) (rows tens : 
         seen-tens : 20 * length seen ≤ length tens
         seen-tens = omega (arith, ran .count, count-le, tens-fit)
 
-        pub rows-enough : (8 * m .count ≤ length (rows₁ ++ drop (8 * n) rows)) × (20 * m .count ≤ length (tens₁ ++ drop (20 * n) tens))
+        rows-enough : (8 * m .count ≤ length (rows₁ ++ drop (8 * n) rows)) × (20 * m .count ≤ length (tens₁ ++ drop (20 * n) tens))
         rows-enough =
             rw (rows-now, tens-now, ran .count, rows-length seen tens-beside rows seen-rows, tens-length seen tens-beside tens seen-tens)
             (seen-rows, seen-tens)
 
-        told : AllTold 0 seen (rows₁ ++ drop (8 * n) rows) (tens₁ ++ drop (20 * n) tens)
+        told : AllInRows 0 seen (rows₁ ++ drop (8 * n) rows) (tens₁ ++ drop (20 * n) tens)
         told =
             rw (rows-now, tens-now)
             (all-told seen tens-beside rows tens seen-rows seen-tens)
@@ -130,7 +136,7 @@ module _ (reader : Reader) (bytes : List ℕ) (input-ended : Bool) (rows tens : 
 
         module _ (at : ℕ) (out₁ : List ℕ) (p : PutsLines (rows₁ ++ drop (8 * n) rows) (tens₁ ++ drop (20 * n) tens) (m .count) out at out₁) where
           lines : Puts out 0 (textOf seen) at out₁
-          lines = p seen (sym (ran .count)) told (omega (arith, count-le, lines-fit))
+          lines = p seen (sym (ran .count)) (rows-enough .0) (rows-enough .1) told (omega (arith, count-le, lines-fit))
 
           pub last-fits : at + longest ≤ length out₁
           last-fits =

@@ -1,5 +1,5 @@
 -- The program's rounds print the text of a body, in whatever pieces it came. Assumes nothing.
-use Prim.Native.Nat.{ℕ, zero, suc, _+_, _*_, _-_, _≤_, _<_}
+use Prim.Native.Nat.{ℕ, zero, suc, _+_, _*_, _≤_, _<_}
 use mathlib.Core.Path.{_≡_, refl, sym, _∙_, ap, subst}
 use mathlib.Core.Bool.{Bool, true, false, cond, false≢true}
 use mathlib.Core.List.{List, [], _∷_, _++_, append-assoc, append-nil}
@@ -11,13 +11,13 @@ use Rattle.item.specs.Said.{Said, gives, more, finish, refuses}
 use Rattle.state.specs.State.{emptyReader}
 use Rattle.state.specs.Reading.{Event, readCall, readerAfter}
 use Rattle.state.specs.declared.Reader.{Reader}
-use Rattle.many.specs.Many.{Seen, Run, seenBy, before, onSaid, calls}
+use Rattle.calls.specs.Calls.{isPending, along, Seen, Run, seenBy, before, onSaid, calls}
 use Rattle.replayer.specs.Replay.{full, windowOf, isShort, isLast, ends, wants, runText, turnRun, replayFrom}
 use Rattle.replayer.specs.Laws.{some, all, AllPrinted}
-use Rattle.replayer.specs.Rounds.{Input, readOn, inputAfter, roundOf, lastRound, wantsRead, roundsText, joined, RoundsPrintText}
+use Rattle.replayer.specs.Rounds.{Input, inputAfter, roundOf, lastRound, wantsRead, roundsText, joined, RoundsPrintText}
 use Rattle.replayer.proofs.Whole.{turn-replays, wants-more}
 use Rattle.replayer.proofs.Bound.{printed-text}
-use Rattle.replayer.proofs.Enough.{rank, rank-le}
+use Rattle.calls.proofs.Ranks.{rank, rank-le}
 use Rattle.replayer.proofs.EnoughTurns.{run-falls, left-after, sum-le, M}
 
 -- all the bytes that are left
@@ -104,10 +104,10 @@ some-event s (refuses k vs) x next left h w = absurd (false≢true (sym h))
 
 goes-on : (s : Bool) (n : ℕ) (r : Reader) (w : List ℕ) (last : Bool) → let run = calls (suc n) r w last in
     ends s (run .halt) (length (run .seen)) ≡ false → wants s (run .halt) ≡ false → 1 ≤ length (run .seen)
-unfolding calls
+unfolding along
 goes-on s n r w last =
     let t = readCall r w last in
-    some-event s (t .said) (λ e m. seenBy r t e m) (λ e m. calls n (readerAfter t) (drop m w) last) (readerAfter t)
+    some-event s (t .said) (λ e m. seenBy (isPending (r .scalars .pending)) w t e m) (λ e m. calls n (readerAfter t) (drop m w) last) (readerAfter t)
 
 -- a read that is wanted is one fewer to come
 after-read : (used : ℕ) (hand : List ℕ) (ended : Bool) (ps : List (List ℕ)) → ended ≡ false

@@ -8,15 +8,16 @@ use borrow.Author.Tests.{lt-ltb, ltb-true, ltb-false, le-ltb, leb-true, leb-fals
 use lib.Dec.{ltb, leb}
 use lib.ListN.{length, take, drop, length-take, length-drop, take-append-drop, drop-of-length-le}
 use lib.Seq.{take-all, take-take, take-append-add, drop-append-le, drop-drop}
-use lib.IntN.{pos}
+use lib.IntN.{ℤ, pos}
 use Rattle.num.proofs.Cases.{by-bool}
 use Rattle.item.specs.Said.{Said, gives, more, finish, refuses}
 use Rattle.state.specs.Reading.{Event, Step, readCall, readerAfter}
 use Rattle.state.specs.declared.Reader.{Reader}
-use Rattle.many.specs.Many.{Seen, Halt, isFull, wantsMore, finishes, isRefused, Run, seenBy, before, onSaid, calls}
+use Rattle.calls.specs.Calls.{isPending, along, Seen, Halt, isFull, wantsMore, finishes, isRefused, Run, seenBy, before, onSaid, calls}
 use Rattle.lines.specs.Lines.{lineOf, lastLine, plainLine, refusedWord}
 use Rattle.lines.specs.declared.Ending.the-variants.{Finish, TooLong}
-use Rattle.replayer.specs.Replay.{full, windowOf, isShort, isLast, tooLong, textOf, ends, endingOf, wants, runText, turnRun, printed, replayFrom}
+use Rattle.replayer.specs.Replay.{full, windowOf, isShort, isLast, ends, endingOf, wants, turnRun, windowCall, replayFrom}
+use Rattle.row_lines.specs.Text.{textOf}
 use Rattle.replayer.specs.Laws.{
   Arrived,
   some,
@@ -35,7 +36,9 @@ use Rattle.replayer.specs.Laws.{
   AllPrinted,
   TurnsReplay,
 }
-use Rattle.replayer.proofs.Longer.{NotMore, call-longer, more-leaves, more-not-last, uses-within}
+use Rattle.calls.specs.Laws.{NotMore}
+use Rattle.calls.proofs.Singles.{uses-within, more-leaves, call-longer}
+use Rattle.calls.proofs.Runs.{follow}
 
 -- ---- the window of what is left of a body, of which a front w is at hand
 
@@ -59,11 +62,30 @@ same-call r w z false f h =
 
 -- ---- one call of the program
 
+-- the line of what a call says, and the lines after it
+abbrev printed : Said Event → List ℤ → (ℕ → List ℕ) → List ℕ
+printed (gives e n) ten next = lineOf e ten ++ next n
+printed more ten next = lastLine TooLong
+printed (finish n) ten next = lastLine Finish
+printed (refuses k vs) ten next = plainLine refusedWord (pos k ∷ [])
+
+said-prints : (k : ℕ) (r : Reader) (b : List ℕ) (a : Said Event) → let run = follow windowCall k r b a in
+    let t = readCall r (windowOf b) (isLast true b) in
+    textOf (run .seen) ++ endingOf false (run .halt) 0 ≡ printed a (t .memory .input) (λ n. replayFrom k (readerAfter t) (drop n b))
+unfolding replayFrom textOf
+said-prints k r b (gives e n) =
+    let t = readCall r (windowOf b) (isLast true b) in
+    append-assoc (lineOf e (t .memory .input)) (textOf (along windowCall k (readerAfter t) (drop n b) .seen)) _
+said-prints k r b more = refl
+said-prints k r b (finish n) = refl
+said-prints k r b (refuses j vs) = refl
+
 one-call : (k : ℕ) (r : Reader) (b : List ℕ) (t : Step) (a : Said Event) → readCall r (windowOf b) (isLast true b) ≡ t → t .said ≡ a
     → replayFrom (suc k) r b ≡ printed a (t .memory .input) (λ n. replayFrom k (readerAfter t) (drop n b))
-unfolding replayFrom
+unfolding replayFrom along
 one-call k r b t a e f =
-    ap (λ (u : Step). printed (u .said) (u .memory .input) (λ n. replayFrom k (readerAfter u) (drop n b))) e
+    said-prints k r b (readCall r (windowOf b) (isLast true b) .said)
+    ∙ ap (λ (u : Step). printed (u .said) (u .memory .input) (λ n. replayFrom k (readerAfter u) (drop n b))) e
     ∙ ap (λ (c : Said Event). printed c (t .memory .input) (λ n. replayFrom k (readerAfter t) (drop n b))) f
 
 -- ---- calls on what is at hand
@@ -95,7 +117,7 @@ module _ (k : ℕ) (r : Reader) (w z : List ℕ) (last : Bool) (f : Fits last w 
   zero-first = omega arith
 
   an-event : (e : Event) (m : ℕ) → t .said ≡ gives e m → (rest : Run) → Follows k (readerAfter t) (drop m w ++ z) rest
-      → Follows k r b (before (seenBy r t e m) rest)
+      → Follows k r b (before (seenBy (isPending (r .scalars .pending)) w t e m) rest)
   unfolding textOf
   an-event e m s rest h =
       let c = one-call (length (rest .seen) + suc k) r b t (gives e m) (same-call r w z last f (rw s tt)) s in
@@ -113,12 +135,12 @@ module _ (k : ℕ) (r : Reader) (w z : List ℕ) (last : Bool) (f : Fits last w 
       → Follows k r b (onSaid a next (readerAfter t))
   unfolding textOf
   no-event (gives e m) s next g = g e m s
-  no-event more s next g = rw (zero-first, more-leaves r w last s)
+  no-event more s next g = rw (zero-first, more-leaves r w last s .1)
   no-event (finish m) s next g = rw zero-first (one-call k r b t (finish m) (same-call r w z last f (rw s tt)) s)
   no-event (refuses j vs) s next g = rw zero-first (one-call k r b t (refuses j vs) (same-call r w z last f (rw s tt)) s)
 
 follows : (n k : ℕ) (r : Reader) (w z : List ℕ) (last : Bool) → Fits last w z → Follows k r (w ++ z) (calls n r w last)
-unfolding calls textOf
+unfolding along textOf
 follows zero k r w z last f = let e : 0 + suc k ≡ suc k = omega arith in rw e
 follows (suc n) k r w z last f =
     let t = readCall r w last in
@@ -173,10 +195,10 @@ of-said (refuses k vs) next x left h l = let z : _≡_ {A = ℕ} 0 1 = cc in abs
 
 first-more : (n : ℕ) (r : Reader) (w : List ℕ) (last : Bool) → calls (suc n) r w last .halt ≡ wantsMore
     → length (calls (suc n) r w last .seen) ≡ 0 → readCall r w last .said ≡ more
-unfolding calls
+unfolding along
 first-more n r w last h e =
     let t = readCall r w last in
-    of-said (t .said) (λ e m. calls n (readerAfter t) (drop m w) last) (λ e m. seenBy r t e m) (readerAfter t) h e
+    of-said (t .said) (λ e m. calls n (readerAfter t) (drop m w) last) (λ e m. seenBy (isPending (r .scalars .pending)) w t e m) (readerAfter t) h e
 
 -- the last line, or what the next turn prints
 join : (s : Bool) (h : Halt) (c : ℕ) (text next whole : List ℕ) → whole ≡ text ++ tailOf h next
@@ -250,16 +272,16 @@ stops-at-more : (r : Reader) (w : List ℕ) (last : Bool) (a : Said Event) → r
     → ((e : Event) (n : ℕ) → readCall r w last .said ≡ gives e n → AtMore w last (next e n))
     → AtMore w last (onSaid a next (readerAfter (readCall r w last)))
 stops-at-more r w last (gives e n) s next f h = f e n s h
-stops-at-more r w last more s next f h = rw (more-leaves r w last s) s
+stops-at-more r w last more s next f h = rw (more-leaves r w last s .1) s
 stops-at-more r w last (finish n) s next f h = let z : _≡_ {A = ℕ} 0 1 = cc in absurd (omega arith)
 stops-at-more r w last (refuses k vs) s next f h = let z : _≡_ {A = ℕ} 0 1 = cc in absurd (omega arith)
 
 at-more : (n : ℕ) (r : Reader) (w : List ℕ) (last : Bool) → AtMore w last (calls n r w last)
-unfolding calls
+unfolding along
 at-more zero r w last h = let z : _≡_ {A = ℕ} 0 1 = cc in absurd (omega arith)
 at-more (suc n) r w last h =
     let t = readCall r w last in
-    stops-at-more r w last (t .said) refl (λ e m. before (seenBy r t e m) (calls n (readerAfter t) (drop m w) last))
+    stops-at-more r w last (t .said) refl (λ e m. before (seenBy (isPending (r .scalars .pending)) w t e m) (calls n (readerAfter t) (drop m w) last))
     (λ e m s g.
     let run = calls n (readerAfter t) (drop m w) last in
     rw (← drop-drop (run .used) m w) (at-more n (readerAfter t) (drop m w) last g))
@@ -282,7 +304,7 @@ wants-more n r bytes ended e =
     let w = wants-is (isShort bytes) (run .halt) e in
     let l = ltb-true (length bytes) full (w .0) in
     let m = at-more n r (windowOf bytes) (isLast ended bytes) (w .1) in
-    let f = more-not-last (run .reader) (drop (run .used) (windowOf bytes)) (isLast ended bytes) m in
+    let f = more-leaves (run .reader) (drop (run .used) (windowOf bytes)) (isLast ended bytes) m .0 in
     let e : take full bytes ≡ bytes = take-all full bytes (omega arith) in (
       not-ended ended (isShort bytes) (w .0) f,
       ap (λ (l : List ℕ). readCall (run .reader) (drop (run .used) l) false .said) (sym e)

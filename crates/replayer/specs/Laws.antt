@@ -9,8 +9,8 @@ use Rattle.kinds.specs.declared.Version.{Version}
 use Rattle.state.specs.State.{emptyReader}
 use Rattle.state.specs.Reading.{readCall}
 use Rattle.state.specs.declared.Reader.{Reader}
-use Rattle.many.specs.Many.{Run}
-use Rattle.replayer.specs.Replay.{isShort, ends, wants, runText, turnRun, replayFrom, enough, replayText}
+use Rattle.calls.specs.Calls.{Run, enough}
+use Rattle.replayer.specs.Replay.{isShort, ends, wants, runText, turnRun, replayFrom, replayText}
 
 -- ---- a turn on what has arrived of what is left of a body
 
@@ -83,10 +83,6 @@ pub record AllPrinted (r : Reader) (body text : List ℕ) : Type 0 where
 abbrev pub TurnsReplay : Type 0
 TurnsReplay =
     (ts : List Turn) (r : Reader) (body : List ℕ) → turnsEnd ts r body ≡ true → AllPrinted r body (turnsText ts r body)
-
--- more calls than enough print no more
-abbrev pub EnoughCalls : Type 0
-EnoughCalls = (r : Reader) (body : List ℕ) (k : ℕ) → replayFrom (enough body + k) r body ≡ replayFrom (enough body) r body
 
 -- turns from the empty reader on, of which one ends the replay, print the body's text
 abbrev pub TurnsPrintText : Type 0

@@ -1,4 +1,3 @@
 pub mod Replay
-pub mod Rows
 pub mod Laws
 pub mod Rounds

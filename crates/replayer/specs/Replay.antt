@@ -1,31 +1,19 @@
 -- The replay program on the bytes at hand: its window, its lines, one turn; and what it prints of a whole body. docs/FORMAT.md, "The replay program".
-use Prim.Native.Nat.{ℕ, zero, suc, _+_, _*_, _-_, _/_, min}
+use Prim.Native.Nat.{ℕ, zero, suc, _+_, _-_, _/_, min}
 use mathlib.Core.Path.{_≡_}
 use mathlib.Core.Bool.{Bool, true, false, cond}
 use mathlib.Core.List.{List, [], _∷_, _++_}
 use lib.Dec.{ltb}
 use lib.ListN.{length, take, drop}
 use lib.IntN.{ℤ, pos}
-use Rattle.item.specs.Said.{Said, gives, more, finish, refuses}
 use Rattle.kinds.specs.declared.Version.{Version}
 use Rattle.state.specs.State.{emptyReader}
-use Rattle.state.specs.Reading.{Event, readCall, readerAfter}
 use Rattle.state.specs.declared.Reader.{Reader}
-use Rattle.many.specs.Many.{
-  Seen,
-  Halt,
-  isFull,
-  wantsMore,
-  finishes,
-  isRefused,
-  Run,
-  calls,
-  rowsFrom,
-  tensFrom,
-  room,
-}
-use Rattle.lines.specs.Lines.{lineOf, lastLine, plainLine, refusedWord, longest}
+use Rattle.rows.specs.Rows.{rowsFrom, tensFrom, room}
+use Rattle.calls.specs.Calls.{Call, along, enough, Halt, isFull, wantsMore, finishes, isRefused, Run, calls}
+use Rattle.lines.specs.Lines.{lastLine, plainLine, refusedWord, longest}
 use Rattle.lines.specs.declared.Ending.the-variants.{Finish, TooLong}
+use Rattle.row_lines.specs.Text.{textOf}
 use Rattle.replayer.specs.declared.Turned.{Turned}
 
 -- ---- the window
@@ -45,11 +33,6 @@ abbrev pub isLast : Bool → List ℕ → Bool
 isLast ended bytes = cond ended (isShort bytes) false
 
 -- ---- the text
-
--- a line for each event
-unfoldable pub textOf : List Seen → List ℕ
-textOf [] = []
-textOf (x ∷ xs) = lineOf (x .event) (x .input) ++ textOf xs
 
 -- too long: a full window answers more at once, before any event
 abbrev pub tooLong : Bool → ℕ → Bool
@@ -110,23 +93,14 @@ pub record Turns (bytes : List ℕ) (run : Run) (rows₀ tens₀ : List ℤ) (ou
 
 -- ---- a whole body
 
--- the line of what a call says, and the lines after it
-abbrev pub printed : Said Event → List ℤ → (ℕ → List ℕ) → List ℕ
-printed (gives e n) ten next = lineOf e ten ++ next n
-printed more ten next = lastLine TooLong
-printed (finish n) ten next = lastLine Finish
-printed (refuses k vs) ten next = plainLine refusedWord (pos k ∷ [])
+-- what each call of the program sees of the bytes left: the window at its place
+abbrev pub windowCall : List ℕ → Call
+windowCall bytes = record { window = windowOf bytes; last = isLast true bytes }
 
--- what the program prints of what is left of a body, in at most so many calls: each call sees the window at its place
+-- what the program prints of what is left of a body, in at most so many calls; the window of a call that answers more is full, and on it
+-- no event came
 unfoldable pub replayFrom : ℕ → Reader → List ℕ → List ℕ
-replayFrom zero r body = []
-replayFrom (suc k) r body =
-    let t = readCall r (windowOf body) (isLast true body) in
-    printed (t .said) (t .memory .input) (λ n. replayFrom k (readerAfter t) (drop n body))
-
--- so many calls are enough for a body
-abbrev pub enough : List ℕ → ℕ
-enough body = 5 * length body + 5
+replayFrom k r body = let run = along windowCall k r body in textOf (run .seen) ++ endingOf false (run .halt) 0
 
 -- what the program prints of a body
 abbrev pub replayText : Version → List ℕ → List ℕ

@@ -8,8 +8,8 @@ use lib.ListN.{length, drop}
 use Rattle.kinds.specs.declared.Version.{Version}
 use Rattle.state.specs.State.{emptyReader}
 use Rattle.state.specs.declared.Reader.{Reader}
-use Rattle.many.specs.Many.{Run}
-use Rattle.replayer.specs.Replay.{isShort, ends, wants, runText, turnRun, enough, replayText}
+use Rattle.calls.specs.Calls.{Run, enough}
+use Rattle.replayer.specs.Replay.{isShort, ends, wants, runText, turnRun, replayText}
 
 -- the bytes at hand, whether the input has ended, and the pieces that the next reads give
 pub record Input : Type 0 where

@@ -1,18 +1,14 @@
 // The replay program's work: reading calls on the bytes at hand, and the lines of their events.
 ghost use mathlib.Core.Path.{_≡_};
 ghost use mathlib.Core.Bool.{false, cond};
-ghost use Prim.Native.Nat.{_+_, _*_, _-_, _/_, _≤_, min};
-ghost use lib.ListN.{length, take, drop};
-ghost use Rattle.lines.specs.Lines.{inputWord, longest};
-ghost use Rattle.lines.specs.Puts.{Puts};
+ghost use Prim.Native.Nat.{_+_, _-_, _/_, _≤_, min};
+ghost use lib.ListN.{length};
+ghost use Rattle.lines.specs.Lines.{longest, Puts};
 ghost use Rattle.many.specs.Many.{haltOf};
 ghost use Rattle.replayer.specs.Replay.{endingOf, ends, tooLong, wants, turnRoom, turnRun, noTurn, Turns};
-ghost use Rattle.replayer.specs.Rows.{pastOr, Tries, TriesPlain, cidTold, clientAnd, recordTold, PutsLine, PutsLines};
-use kinds::Cid;
 use lines::Ending;
 use many::Stop;
 use state::Reader;
-use varint::Wrote;
 
 const FULL: usize = 65536;
 
@@ -26,94 +22,6 @@ pub struct Turned {
     pub filled: usize,
     pub ended: bool,
     pub wants: bool,
-}
-
-// The place past what was written, else the place itself.
-fn past(wrote: Wrote, at: usize) -> usize
-    ensures { λ r. ⌜ r ≡ pastOr wrote at ⌝ }
-{
-    match wrote {
-        Wrote::Past(next) => next,
-        Wrote::Refused(_) => at,
-    }
-}
-
-// A word and the numbers from a place of the rows to another.
-fn put_part(word: &[u8], rows: &[i32], from: usize, to: usize, out: &mut [u8], at: usize) -> usize
-    requires { ⌜ (from ≤ to) × (to ≤ length (now rows)) ⌝ }
-    ensures { λ r. ⌜ TriesPlain (now (word .entry)) (take (to - from) (drop from (now (rows .entry)))) (now (out .entry)) at r (now (out .exit)) ⌝ }
-{
-    past(lines::write_plain(word, &rows[from..to], out, at), at)
-}
-
-// The line of an input whose client stands at a place of the rows, and whose ten numbers at a place of the tens.
-fn put_input(
-    rows: &[i32],
-    first: usize,
-    tens: &[i32],
-    from: usize,
-    out: &mut [u8],
-    at: usize,
-) -> usize
-    requires { ⌜ (first + 1 ≤ length (now rows)) × (from + 10 ≤ length (now tens)) ⌝ }
-    ensures { λ r. ⌜ TriesPlain inputWord (clientAnd (now (rows .entry)) first (now (tens .entry)) from) (now (out .entry)) at r (now (out .exit)) ⌝ }
-{
-    let to = from + 10;
-    past(
-        lines::write_input(rows[first], &tens[from..to], out, at),
-        at,
-    )
-}
-
-// The client of which two numbers tell: whether there is one, and its number.
-fn cid_of(has: i32, client: i32) -> Cid
-    ensures { λ r. ⌜ r ≡ cidTold has client ⌝ }
-{
-    if has == 1 {
-        return Cid::Of(client);
-    }
-    Cid::NoCid
-}
-
-// The line of a record whose kind's number and client stand at a place of the rows.
-fn put_record(rows: &[i32], first: usize, out: &mut [u8], at: usize) -> usize
-    requires { ⌜ first + 3 ≤ length (now rows) ⌝ }
-    ensures { λ r. ⌜ Tries longest (now (out .entry)) at (recordTold (now (rows .entry)) first) r (now (out .exit)) ⌝ }
-{
-    let cid = cid_of(rows[first + 1], rows[first + 2]);
-    past(lines::write_record(rows[first], cid, out, at), at)
-}
-
-// The line of event i, from its row and its ten numbers: the place past it.
-fn put_row(rows: &[i32], tens: &[i32], i: usize, out: &mut [u8], at: usize) -> usize
-    requires { ⌜ (8 * i + 8 ≤ length (now rows)) × (20 * i + 20 ≤ length (now tens)) ⌝ }
-    ensures { λ r. ⌜ PutsLine (now (rows .entry)) (now (tens .entry)) i (now (out .entry)) at r (now (out .exit)) ⌝ }
-{
-    let event = rows[8 * i];
-    let first = 8 * i + 2;
-    match event {
-        1 => put_part(b"start", rows, first, first + 1, out, at),
-        2 => put_part(b"end", rows, first, first + 1, out, at),
-        3 => put_part(b"new", rows, first, first + 3, out, at),
-        4 => put_part(b"change", rows, first, first + 5, out, at),
-        5 => put_part(b"old", rows, first, first + 3, out, at),
-        6 => put_input(rows, first, tens, 20 * i, out, at),
-        _ => put_record(rows, first, out, at),
-    }
-}
-
-// The lines of so many events, one behind the other: the place past them.
-fn put_rows(rows: &[i32], tens: &[i32], count: usize, out: &mut [u8]) -> usize
-    requires { ⌜ (8 * count ≤ length (now rows)) × (20 * count ≤ length (now tens)) ⌝ }
-    ensures { λ r. ⌜ PutsLines (now (rows .entry)) (now (tens .entry)) count (now (out .entry)) r (now (out .exit)) ⌝ }
-{
-    let mut i = 0;
-    let mut at = 0;
-    while i < count {
-        at = put_row(rows, tens, i, out, at);
-        i += 1;
-    }
-    at
 }
 
 // Whether a window, short or full, that answers more after so many events is too long.
@@ -135,12 +43,15 @@ fn put_ending(short: bool, stop: Stop, count: usize, out: &mut [u8], at: usize) 
         Stop::Full => at,
         Stop::More => {
             if is_too_long(short, count) {
-                return past(lines::write_last(Ending::TooLong, out, at), at);
+                return row_lines::past_or(lines::write_last(Ending::TooLong, out, at), at);
             }
             at
         }
-        Stop::Finish => past(lines::write_last(Ending::Finish, out, at), at),
-        Stop::Refused(refusal) => past(lines::write_last(Ending::Refused(refusal), out, at), at),
+        Stop::Finish => row_lines::past_or(lines::write_last(Ending::Finish, out, at), at),
+        Stop::Refused(refusal) => row_lines::past_or(
+            lines::write_last(Ending::Refused(refusal), out, at),
+            at,
+        ),
     }
 }
 
@@ -247,7 +158,7 @@ pub fn turn(
     let stop = many.stop;
     let count = many.count;
     let left = many.reader;
-    let at = put_rows(rows, tens, count, out);
+    let at = row_lines::put_rows(rows, tens, count, out);
     Turned {
         reader: left,
         used: many.used,

@@ -1,3 +1,4 @@
+pub mod Ahead
 pub mod Back
 pub mod Calls
 pub mod Frames

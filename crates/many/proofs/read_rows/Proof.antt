@@ -6,7 +6,7 @@ use borrow.Author.Needs.{needs}
 use mir.Syntax.{w32}
 use mir.Val.{toZ, ofZ}
 use Rattle.state.specs.State.{entriesWith, memory, readerWith}
-use Rattle.many.specs.Many.{calls}
+use Rattle.calls.specs.Calls.{calls}
 use Rattle.many.proofs.Turns.{Going, starts, full, fits, turn, more, finish, refused}
 use Rattle.many.proofs.read_rows.Statement.{statement}
 use Rattle.many.proofs.read_rows.Tie as tie
@@ -25,16 +25,6 @@ loop-holds c =
     let a = c .before .args in
     starts (a .room) (a .w .now) (a .last) (a .rows .now) (a .tens .now) (a .scalars)
     (memory (a .marks .now) (a .xs .now) (a .ys .now) (a .held .now) (a .inputs .now) (a .input .now) (a .former .now)) (c .before .pre .0)
-
-put-event-requires : tie.Need-put-event-requires Inv-loop μ-loop
-put-event-requires c κs =
-    let t = c .before .before .before .before .before .before .before .before .before .before .before .before .before .before .before .before .before .before in
-    let l = t .before .loop in
-    let pre = t .before .before .before .pre .1 in
-    record {
-      rows = omega (arith, t .loop-test .taken, pre .rows, l .inv .rows);
-      tens = omega (arith, t .loop-test .taken, pre .tens, l .inv .tens);
-    }
 
 add-used : tie.Need-add-used Inv-loop μ-loop
 add-used c =
@@ -59,8 +49,13 @@ loop-again c =
     let g = c .before .before .before .before .before .before .before .before .answer .given in
     let p = c .before .before .before .before .before .before .before .before .before .before .before .before .before .before .before .before .before .before .before .before .pending-flag in
     let j : toZ w32 (ofZ w32 (p .result)) ≡ p .result = search needs in
+    let pre = t .before .before .before .pre .1 in
     turn (t .before .loop .inv) (t .loop-test .taken) (o .good-call .result) _ (o .good-call .ensures) (g .0 .0) (g .0 .1 .0) _ _ (g .1)
     (rw (j, p .ensures) at (c .before .before .put-event .ensures)) (c .before .rows .given) (c .tens .given)
+    (record {
+      rows = omega (arith, t .loop-test .taken, pre .rows, t .before .loop .inv .rows);
+      tens = omega (arith, t .loop-test .taken, pre .tens, t .before .loop .inv .tens);
+    })
 
 returns : tie.Need-returns Inv-loop μ-loop
 returns c =
@@ -97,7 +92,7 @@ pub read-rows-spec : {M : Type 1} → statement M
 read-rows-spec =
     tie.close
     (tie.spec Inv-loop μ-loop loop-holds (λ c κs. tt) (λ c. search needs) (λ c. search needs) (λ c. search needs) (λ c κs. tt)
-    (λ c. search needs) put-event-requires add-used add-count loop-less loop-again (λ c. search needs) (λ c κs. tt)
+    (λ c. search needs) (λ c κs. tt) add-used add-count loop-less loop-again (λ c. search needs) (λ c κs. tt)
     (λ c. c .before .before .before .before .before .before .before .before .before .before .before .before .before .before .before .loop .inv .rows)
     (λ c. c .before .before .before .before .before .before .before .before .before .before .before .before .before .before .before .loop .inv .tens)
     returns (λ c. search needs) add-stopped (λ c κs. tt)

@@ -12,10 +12,10 @@ use Rattle.lines.specs.Lines.{lastLine, longest, lineAnswer, lineTarget}
 use Rattle.lines.specs.Puts.{Puts}
 use Rattle.lines.specs.declared.Ending.the-variants.{TooLong}
 use Rattle.lines.proofs.Texts.{same-text}
-use Rattle.many.specs.Many.{wantsMore}
-use Rattle.replayer.specs.Rows.{pastOr}
+use Rattle.calls.specs.Calls.{wantsMore}
+use Rattle.row_lines.specs.RowLines.{pastOr}
 use Rattle.replayer.specs.Replay.{tooLong, endingOf}
-use Rattle.replayer.proofs.FromRows.{puts-of}
+use Rattle.row_lines.proofs.FromRows.{puts-of}
 use Rattle.replayer.proofs.put_ending.Statement.{statement}
 use Rattle.replayer.proofs.put_ending.Tie as tie
 
@@ -43,7 +43,7 @@ returns c =
     let a = s .args in
     rw (t .before .enum-told2 .given .1)
     (same-text (a .out .now) (a .at) _ _ (too-long (a .short) (a .count) (sym (t .is-too-long .ensures) ∙ i .if1 .taken)) _ _
-    (last-put (a .out .now) (a .at) (lastLine TooLong) (s .pre) _ _ _ (c .past .ensures) (w .write-last .ensures)))
+    (last-put (a .out .now) (a .at) (lastLine TooLong) (s .pre) _ _ _ (c .past-or .ensures) (w .write-last .ensures)))
 
 returns-2 : tie.Need-returns-2
 returns-2 c =
@@ -65,7 +65,7 @@ returns-4 c =
     let t = w .before .before in
     let s = t .before .before .before in
     let a = s .args in
-    rw (t .enum-told3 .given .1) (last-put (a .out .now) (a .at) _ (s .pre) _ _ _ (c .past2 .ensures) (w .write-last2 .ensures))
+    rw (t .enum-told3 .given .1) (last-put (a .out .now) (a .at) _ (s .pre) _ _ _ (c .past-or2 .ensures) (w .write-last2 .ensures))
 
 returns-5 : tie.Need-returns-5
 returns-5 c =
@@ -73,7 +73,7 @@ returns-5 c =
     let t = w .before .before .before in
     let s = t .before .before .before in
     let a = s .args in
-    rw (t .stop .given .1) (last-put (a .out .now) (a .at) _ (s .pre) _ _ _ (c .past3 .ensures) (w .write-last3 .ensures))
+    rw (t .stop .given .1) (last-put (a .out .now) (a .at) _ (s .pre) _ _ _ (c .past-or3 .ensures) (w .write-last3 .ensures))
 
 pub put-ending-spec : {M : Type 1} → statement M
 put-ending-spec =

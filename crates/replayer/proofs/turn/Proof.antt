@@ -5,7 +5,7 @@ use native.Mathlib.Omega.{arith}
 use borrow.Author.Needs.{needs}
 use lib.ListN.{length}
 use lib.Seq.{length-take-le}
-use Rattle.replayer.proofs.OneTurn.{nothing, rows-fit, tens-fit, rows-enough, last-fits, turned}
+use Rattle.replayer.proofs.OneTurn.{nothing, rows-fit, tens-fit, last-fits, turned}
 use Rattle.replayer.proofs.turn.Statement.{statement}
 use Rattle.replayer.proofs.turn.Tie as tie
 
@@ -49,18 +49,6 @@ slice-aggregate-read-many-3 c =
 read-many-requires : tie.Need-read-many-requires
 read-many-requires c κs = search needs
 
-put-rows-requires : tie.Need-put-rows-requires
-put-rows-requires c κs =
-    let m = c .before .before .before .before .before .before in
-    let f = m .before .before .before in
-    let l = f .before .before in
-    let i = l .before in
-    let r = i .before in
-    let a = r .before .before .before .args in
-    rows-enough (a .reader) (a .bytes .now) (a .ended) (a .rows .now) (a .tens .now) (a .out .now) (r .event-room .result) (r .event-room .ensures) (i .if1 .left)
-    (m .read-many .result) _ _ (l .least .result) (l .least .ensures)
-    (f .is-last .result) (f .is-last .ensures) (m .read-many .ensures)
-
 put-ending-requires : tie.Need-put-ending-requires
 put-ending-requires c κs =
     let p = c .before .before .before in
@@ -96,5 +84,5 @@ turn-spec =
     (λ c. omega (arith, some-rows (c .before))) (λ c. omega (arith, some-tens (c .before)))
     slice-aggregate-read-many (λ c κs. search needs) (λ c. omega (arith, some-rows (c .before .before .before)))
     slice-aggregate-read-many-2 (λ c. omega (arith, some-tens (c .before .before .before .before)))
-    slice-aggregate-read-many-3 read-many-requires put-rows-requires put-ending-requires (λ c κs. search needs) (λ c κs. search needs)
+    slice-aggregate-read-many-3 read-many-requires (λ c κs. search needs) put-ending-requires (λ c κs. search needs) (λ c κs. search needs)
     (λ c. search needs) (λ c. search needs) (λ c. search needs) returns-2)

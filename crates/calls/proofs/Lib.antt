@@ -1,0 +1,5 @@
+pub mod Slims
+pub mod Singles
+pub mod Ranks
+pub mod Runs
+pub mod Theorems

@@ -1,0 +1,139 @@
+// Rows of numbers that tell of events, in lent memory.
+ghost use mathlib.Core.Path.{_≡_};
+ghost use mathlib.Core.List.{[], _∷_, _++_};
+ghost use Prim.Native.Nat.{_+_, _≤_};
+ghost use lib.ListN.{length};
+ghost use lib.IntN.{pos};
+ghost use Rattle.num.specs.Wrap.{wrap32};
+ghost use Rattle.item.specs.Contents.{itemOf};
+ghost use Rattle.state.specs.Reading.{other};
+ghost use Rattle.state.specs.Views.{eventIs};
+ghost use Rattle.calls.specs.Calls.{isPending};
+ghost use Rattle.rows.specs.Rows.{flag, eventRow, put};
+ghost use Rattle.rows.specs.Stores.{place, EventPut};
+use kinds::Cid;
+use item::Item;
+use state::Event;
+use state::Pending;
+use state::Scalars;
+
+// A number of bytes, modulo 2^32 and signed.
+fn wrapped(n: usize) -> i32
+    ensures { λ r. ⌜ r ≡ wrap32 (pos n) ⌝ }
+{
+    num::signed((n % 4294967296) as u32)
+}
+
+fn flag_of(b: bool) -> i32
+    ensures { λ r. ⌜ r ≡ flag b ⌝ }
+{
+    if b { 1 } else { 0 }
+}
+
+// Whether a kind is pending.
+pub fn pending_flag(s: Scalars) -> i32
+    ensures { λ r. ⌜ r ≡ flag (isPending (s .pending)) ⌝ }
+{
+    let pending = s.pending;
+    let Pending::Is(_) = pending else {
+        return 0;
+    };
+    1
+}
+
+// Row i, if there is room for it.
+fn put_row(
+    rows: &mut [i32],
+    i: usize,
+    event: i32,
+    used: i32,
+    a: i32,
+    b: i32,
+    c: i32,
+    d: i32,
+    e: i32,
+)
+    ensures { λ _. ⌜ now (rows .exit) ≡ place 8 i (event ∷ used ∷ a ∷ b ∷ c ∷ d ∷ e ∷ pos 0 ∷ []) (now (rows .entry)) ⌝ }
+{
+    if rows.len() / 8 <= i {
+        return;
+    }
+    let at = 8 * i;
+    rows[at] = event;
+    rows[at + 1] = used;
+    rows[at + 2] = a;
+    rows[at + 3] = b;
+    rows[at + 4] = c;
+    rows[at + 5] = d;
+    rows[at + 6] = e;
+    rows[at + 7] = 0;
+}
+
+// The row of a record that changes no entry.
+fn put_record(item: Item, used: i32, pending: i32, rows: &mut [i32], i: usize)
+    ensures { λ _. ⌜ now (rows .exit) ≡ place 8 i (eventRow (other (itemOf item)) used pending) (now (rows .entry)) ⌝ }
+{
+    let kind = item.kind_number();
+    match item.cid() {
+        Cid::Of(c) => put_row(rows, i, 7, used, kind, 1, c, pending, 0),
+        Cid::NoCid => put_row(rows, i, 7, used, kind, 0, 0, pending, 0),
+    }
+}
+
+fn put_ten(tens: &mut [i32], at: usize, ten: [i32; 10])
+    requires { ⌜ at + 10 ≤ length (now tens) ⌝ }
+    ensures { λ _. ⌜ now (tens .exit) ≡ put (now (tens .entry)) at ten ⌝ }
+{
+    let mut k: usize = 0;
+    while k < 10 {
+        let x = ten[k];
+        tens[at + k] = x;
+        k += 1;
+    }
+}
+
+// The ten numbers and the former ten of input i, if there is room for them.
+fn put_tens(tens: &mut [i32], i: usize, input: [i32; 10], former: [i32; 10])
+    ensures { λ _. ⌜ now (tens .exit) ≡ place 20 i (input ++ former) (now (tens .entry)) ⌝ }
+{
+    if tens.len() / 20 <= i {
+        return;
+    }
+    let at = 20 * i;
+    put_ten(tens, at, input);
+    put_ten(tens, at + 10, former);
+}
+
+// Event i in its places, if there is room for it; its call used so many bytes; pending is a number of its row.
+pub fn put_event(
+    event: Event,
+    used: usize,
+    pending: i32,
+    i: usize,
+    rows: &mut [i32],
+    tens: &mut [i32],
+    input: &[i32; 10],
+    former: &[i32; 10],
+)
+    ensures { λ _. ⌜ EventPut (eventIs event) used pending i (now (input .entry)) (now (former .entry)) (now (rows .entry)) (now (tens .entry)) (now (rows .exit)) (now (tens .exit)) ⌝ }
+{
+    let n = wrapped(used);
+    match event {
+        Event::TickStart(t) => put_row(rows, i, 1, n, t, 0, 0, 0, 0),
+        Event::TickEnd(t) => put_row(rows, i, 2, n, t, 0, 0, 0, 0),
+        Event::PlayerNew { cid, x, y } => put_row(rows, i, 3, n, cid, x, y, 0, 0),
+        Event::PlayerChange {
+            cid,
+            x,
+            y,
+            old_x,
+            old_y,
+        } => put_row(rows, i, 4, n, cid, x, y, old_x, old_y),
+        Event::PlayerOld { cid, x, y } => put_row(rows, i, 5, n, cid, x, y, 0, 0),
+        Event::Input { cid, former: had } => {
+            put_row(rows, i, 6, n, cid, flag_of(had), 0, 0, 0);
+            put_tens(tens, i, *input, *former);
+        }
+        Event::Record(item) => put_record(item, n, pending, rows, i),
+    }
+}
