@@ -27,11 +27,11 @@ ghost use Rattle.outlines.specs.Outlines.{
   leftAfter,
   Outlines,
 };
-use fields::Args;
-use kinds::Kind;
-use item::Tag;
-use kinds::Version;
 use extensions::Layout;
+use fields::Args;
+use item::Tag;
+use kinds::Kind;
+use kinds::Version;
 use packer::Part;
 use shapes::Fields;
 use shapes::Shape;
