@@ -40,7 +40,8 @@ use Rattle.state.proofs.Every.{by-cond}
 use Rattle.rests.specs.Kinds.{otherSort}
 use Rattle.rests.proofs.Others.{no-other, by-other}
 use Rattle.rests.proofs.Slim.{otherSaid, slim-said}
-use Rattle.arguments.specs.Arguments.{kindArgs, tagArgs, answerArgs, saidWith, isCommand}
+use Rattle.kinds.specs.Kinds.{isCommand}
+use Rattle.arguments.specs.Arguments.{kindArgs, tagArgs, answerArgs, saidWith}
 use Rattle.arguments.specs.Inside.{isRecord, ArgsFor}
 use Rattle.arguments.proofs.Whole.{whole-got}
 use Rattle.arguments.proofs.Records.{FromRest, FromKind, call-given}

@@ -24,7 +24,7 @@ use Rattle.item.specs.declared.Tag.the-variants.{Plain, Named, Other}
 use Rattle.item.specs.Contents.{ownContent}
 use Rattle.rests.specs.Kinds.{isOther}
 use Rattle.rests.proofs.Others.{no-other, by-other}
-use Rattle.arguments.specs.Arguments.{isCommand}
+use Rattle.kinds.specs.Kinds.{isCommand}
 
 -- ---- as many values as fields
 

@@ -1,5 +1,5 @@
 -- What a reading call says, with the arguments that stand beside a command.
-use mathlib.Core.Bool.{Bool, true, false, cond}
+use mathlib.Core.Bool.{cond}
 use mathlib.Core.List.{List, []}
 use lib.ListN.{take}
 use Rattle.fields.specs.Views.{argsWith}
@@ -7,8 +7,8 @@ use Rattle.fields.specs.declared.Args.{Args}
 use Rattle.item.specs.Said.{Said, gives, more, finish, refusing}
 use Rattle.item.specs.Contents.{itemOf, withBeside, noArgs}
 use Rattle.item.specs.declared.Item.{Item}
+use Rattle.kinds.specs.Kinds.{isCommand}
 use Rattle.kinds.specs.declared.Kind.{Kind}
-use Rattle.kinds.specs.declared.Kind.the-variants as kinds
 use Rattle.item.specs.declared.Tag.{Tag}
 use Rattle.item.specs.declared.Tag.the-variants.{Plain, Named, Other}
 use Rattle.state.specs.Reading.{Event, other}
@@ -36,20 +36,6 @@ saidWith (answers.Event e used) xs = gives (eventWith e xs) used
 saidWith answers.More xs = more
 saidWith (answers.Finish used) xs = finish used
 saidWith (answers.Refused r) xs = refusing r
-
-abbrev pub isCommand : Kind → Bool
-isCommand (kinds.PlayerDiff c) = false
-isCommand kinds.Finish = false
-isCommand kinds.TickSkip = false
-isCommand (kinds.PlayerNew c) = false
-isCommand (kinds.PlayerOld c) = false
-isCommand kinds.InputDiff = false
-isCommand kinds.InputNew = false
-isCommand kinds.Message = false
-isCommand kinds.Join = false
-isCommand kinds.Drop = false
-isCommand kinds.ConsoleCommand = true
-isCommand kinds.Ex = false
 
 -- arguments stand beside a command alone, as many parts as the count says, the others empty; elsewhere there are none
 abbrev pub kindArgs : Kind → Args → Args

@@ -10,7 +10,9 @@ use Rattle.packer.specs.declared.Part.{Part}
 use Rattle.fields.specs.Fields.{Value, num, bytes, strings, Reading, got, runsOut, refused}
 use Rattle.fields.specs.Views.{numbers}
 use Rattle.item.specs.Said.{gives}
-use Rattle.extensions.specs.Extensions.{Payload, shaped, whole, unknown, Extension, extensions, noExtension, payloadAt, hasClient}
+use Rattle.extensions.specs.Extensions.{Payload, shaped, whole, extensionRow, payloadAt, hasClient, all}
+use Rattle.extensions.specs.declared.Extension.{Extension}
+use Rattle.extensions.proofs.Each.{tested}
 use Rattle.item.specs.Records.{Content, readRest}
 use Rattle.item.specs.Contents.{firstNumber, tagCid, cidOf, ownPayload, ownFields}
 use Rattle.kinds.specs.Kinds.{kindCid}
@@ -81,26 +83,15 @@ abbrev full : Payload → Bool
 full (shaped []) = false
 full (shaped (f ∷ fs)) = true
 full whole = true
-full unknown = true
 
 first-payload : (p : Payload) → full p ≡ true → First (length (ownPayload p))
 first-payload (shaped []) e = no-other e
 first-payload (shaped (f ∷ fs)) e = first-more (length fs)
 first-payload whole e = first-more 0
-first-payload unknown e = first-more 1
 
-abbrev allFull : List Extension → Bool
-allFull [] = true
-allFull (x ∷ xs) = full (x .payload) && allFull xs
-
-full-at : (xs : List Extension) (k : ℕ) → allFull xs ≡ true → full (getD xs k noExtension .payload) ≡ true
-full-at [] k e = refl
-full-at (x ∷ xs) zero e = left-of (full (x .payload)) (allFull xs) e
-full-at (x ∷ xs) (suc k) e = full-at xs k (right-of (full (x .payload)) (allFull xs) e)
-
-first-named : (k : ℕ) → First (length (ownPayload (payloadAt k)))
-unfolding payloadAt extensions
-first-named k = first-payload (payloadAt k) (full-at extensions k refl)
+first-named : (k : Extension) → First (length (ownPayload (payloadAt k)))
+unfolding payloadAt extensionRow all
+first-named k = first-payload (payloadAt k) (tested (λ e. full (payloadAt e)) refl k)
 
 cid-kind : (k : Kind) (vs : List (Value Part)) → kindCid k (firstNumber (take (length (ownFields (Plain k))) vs)) ≡ kindCid k (firstNumber vs)
 cid-kind (kinds.PlayerDiff c) vs = refl
