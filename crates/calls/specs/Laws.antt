@@ -41,25 +41,25 @@ lastFirst (x ∷ xs) = lastFirst xs ++ x ∷ []
 
 -- a run is that of a list of calls: what holds of lists of calls holds of runs
 pub record IsList (r : Reader) (run : Run) : Type 0 where
-  pub calls : List Call
-  pub left : after r calls ≡ run .reader
-  pub same : events r calls ≡ lastFirst (run .seen)
+  pub list : List Call
+  pub left : after r list ≡ run .reader
+  pub same : events r list ≡ lastFirst (run .seen)
 
 abbrev pub RunsAreLists : Type 0
 RunsAreLists = (see : List ℕ → Call) (k : ℕ) (r : Reader) (bytes : List ℕ) → IsList r (along see k r bytes)
 
 -- a run, and one that goes on where nothing but the number of calls ended it
-abbrev pub joined : Halt → Run → Run → Run
-joined isFull a b = record { seen = a .seen ++ b .seen; halt = b .halt; used = a .used + b .used; reader = b .reader }
-joined wantsMore a b = a
-joined finishes a b = a
-joined (isRefused k vs) a b = a
+abbrev pub continued : Halt → Run → Run → Run
+continued isFull a b = record { seen = a .seen ++ b .seen; halt = b .halt; used = a .used + b .used; reader = b .reader }
+continued wantsMore a b = a
+continued finishes a b = a
+continued (isRefused k vs) a b = a
 
 -- a run of a + b calls is one of a and then one of b
 abbrev pub RunsSplit : Type 0
 RunsSplit =
     (see : List ℕ → Call) (a b : ℕ) (r : Reader) (bytes : List ℕ) → let first = along see a r bytes in
-    along see (a + b) r bytes ≡ joined (first .halt) first (along see b (first .reader) (drop (first .used) bytes))
+    along see (a + b) r bytes ≡ continued (first .halt) first (along see b (first .reader) (drop (first .used) bytes))
 
 -- no more events than calls; as many, where nothing else ended the run
 abbrev pub FewEvents : Type 0

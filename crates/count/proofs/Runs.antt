@@ -14,7 +14,7 @@ use Rattle.calls.specs.Calls.{along, allOf, calls}
 use Rattle.calls.specs.Laws.{Within}
 use Rattle.calls.proofs.Theorems.{events-of-few}
 use Rattle.calls.proofs.Runs.{follow}
-use Rattle.count.specs.Count.{eventsIn, most, countOf, usedBy}
+use Rattle.count.specs.Count.{eventsIn, most, eventCount, usedBy}
 use Rattle.count.specs.declared.Used.{Used}
 use Rattle.count.specs.declared.Used.the-variants.{Bytes, NoEvent}
 
@@ -30,7 +30,7 @@ unfolding along
 no-calls r w = refl
 
 -- so many calls as a count goes to
-pub most-calls : (v : Version) (body : List ℕ) → events most (emptyReader v) body ≡ countOf v body
+pub most-calls : (v : Version) (body : List ℕ) → events most (emptyReader v) body ≡ eventCount v body
 unfolding eventsIn
 most-calls v body = events-of-few (allOf true) (sees-all true) most (emptyReader v) body
 

@@ -13,7 +13,7 @@ use Rattle.state.specs.Reading.{Event, readCall, readerAfter}
 use Rattle.state.specs.Laws.{usedIn}
 use Rattle.state.specs.declared.Reader.{Reader}
 use Rattle.calls.proofs.Theorems.{call-within}
-use Rattle.count.specs.Count.{most, countOf, usedBy}
+use Rattle.count.specs.Count.{most, eventCount, usedBy}
 use Rattle.count.specs.declared.Used.{Used}
 use Rattle.count.specs.declared.Used.the-variants.{Bytes, NoEvent}
 use Rattle.count.proofs.Runs.{events, no-calls, most-calls, first-counts}
@@ -22,7 +22,7 @@ use Rattle.count.proofs.Runs.{events, no-calls, most-calls, first-count
 pub record Far (v : Version) (body : List ℕ) (r : Reader) (at count : ℕ) : Type 0 where
   pub within : at ≤ length body
   pub few : count ≤ most
-  pub rest : countOf v body ≡ count + events (most - count) r (drop at body)
+  pub rest : eventCount v body ≡ count + events (most - count) r (drop at body)
 
 pub far-start : (v : Version) (body : List ℕ) → Far v body (emptyReader v) 0 0
 far-start v body = record { within = zero-le; few = zero-le; rest = omega (arith, most-calls v body) }
@@ -41,10 +41,10 @@ used-within (finish n) m h = let z : _≡_ {A = ℕ} 0 1 = cc in absurd (omega a
 used-within (refuses k vs) m h = let z : _≡_ {A = ℕ} 0 1 = cc in absurd (omega arith)
 
 module _ (v : Version) (body : List ℕ) (r : Reader) (at count : ℕ) (f : Far v body r at count) where
-  pub far-full : most ≤ count → count ≡ countOf v body
+  pub far-full : most ≤ count → count ≡ eventCount v body
   far-full h =
       let e : most - count ≡ 0 = omega (arith, h) in
-      let s : countOf v body ≡ count + events 0 r (drop at body) = rw e at (f .rest) in
+      let s : eventCount v body ≡ count + events 0 r (drop at body) = rw e at (f .rest) in
       omega (arith, s, no-calls r (drop at body))
 
   -- one call more, by the bytes that its event used
@@ -55,13 +55,13 @@ module _ (v : Version) (body : List ℕ) (r : Reader) (at count : ℕ) (f : Far 
     left : ℕ
     left = most - (count + 1)
 
-    rest : countOf v body ≡ count + events (suc left) r (drop at body)
+    rest : eventCount v body ≡ count + events (suc left) r (drop at body)
     unfolding left
     rest =
         let e : most - count ≡ suc (most - (count + 1)) = omega (arith, h) in
         rw e at (f .rest)
 
-    pub far-end : u ≡ NoEvent → count ≡ countOf v body
+    pub far-end : u ≡ NoEvent → count ≡ eventCount v body
     far-end e =
         let n : events (suc left) r (drop at body) ≡ 0 = first-counts left r (drop at body) NoEvent (sym e ∙ here) in
         omega (arith, rest, n)

@@ -24,8 +24,8 @@ eventsIn v body = length (calls (enough body) (emptyReader v) body true .seen)
 abbrev pub most : ℕ
 most = 4611686018427387904
 
-abbrev pub countOf : Version → List ℕ → ℕ
-countOf v body = min most (eventsIn v body)
+abbrev pub eventCount : Version → List ℕ → ℕ
+eventCount v body = min most (eventsIn v body)
 
 -- the bytes that the event of a call used
 abbrev pub usedBy : Said Event → Used

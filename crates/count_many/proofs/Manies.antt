@@ -11,13 +11,13 @@ use Rattle.kinds.specs.declared.Version.{Version}
 use Rattle.state.specs.State.{emptyReader}
 use Rattle.state.specs.declared.Reader.{Reader}
 use Rattle.calls.specs.Calls.{Halt, isFull, wantsMore, finishes, isRefused, Run, allOf, calls}
-use Rattle.calls.specs.Laws.{joined}
+use Rattle.calls.specs.Laws.{continued}
 use Rattle.calls.proofs.Theorems.{runs-split, few-events, run-within}
 use Rattle.rows.specs.Rows.{room}
 use Rattle.many.specs.Many.{manyCalls, haltOf, ManyIs}
 use Rattle.many.specs.declared.ManyAnswer.{ManyAnswer}
 use Rattle.many.proofs.Edges.{with-room}
-use Rattle.count.specs.Count.{most, countOf}
+use Rattle.count.specs.Count.{most, eventCount}
 use Rattle.count.proofs.Runs.{sees-all, events, no-calls, most-calls}
 use Rattle.count.proofs.Singles.{windowAt, whole}
 use Rattle.count_many.specs.Ends.{notFull}
@@ -26,22 +26,22 @@ use Rattle.count_many.specs.Ends.{notFull}
 pub record Far (v : Version) (body : List ℕ) (r : Reader) (at count turns : ℕ) : Type 0 where
   pub within : at ≤ length body
   pub bound : count + 4096 * turns ≤ most
-  pub rest : countOf v body ≡ count + events (4096 * turns) r (drop at body)
+  pub rest : eventCount v body ≡ count + events (4096 * turns) r (drop at body)
 
 pub far-start : (v : Version) (body : List ℕ) → Far v body (emptyReader v) 0 0 1125899906842624
 far-start v body = record { within = zero-le; bound = omega arith; rest = omega (arith, most-calls v body) }
 
-joined-count : (h : Halt) (a b : Run) → length (joined h a b .seen) ≡ cond (notFull h) (length (a .seen)) (length (a .seen) + length (b .seen))
-joined-count isFull a b = length-append (a .seen) (b .seen)
-joined-count wantsMore a b = refl
-joined-count finishes a b = refl
-joined-count (isRefused k vs) a b = refl
+continued-count : (h : Halt) (a b : Run) → length (continued h a b .seen) ≡ cond (notFull h) (length (a .seen)) (length (a .seen) + length (b .seen))
+continued-count isFull a b = length-append (a .seen) (b .seen)
+continued-count wantsMore a b = refl
+continued-count finishes a b = refl
+continued-count (isRefused k vs) a b = refl
 
 module _ (v : Version) (body : List ℕ) (r : Reader) (at count turns : ℕ) (f : Far v body r at count turns) where
-  pub far-full : turns ≤ 0 → count ≡ countOf v body
+  pub far-full : turns ≤ 0 → count ≡ eventCount v body
   far-full h =
       let e : 4096 * turns ≡ 0 = omega (arith, h) in
-      let s : countOf v body ≡ count + events 0 r (drop at body) = rw e at (f .rest) in
+      let s : eventCount v body ≡ count + events 0 r (drop at body) = rw e at (f .rest) in
       omega (arith, s, no-calls r (drop at body))
 
   module _
@@ -62,13 +62,13 @@ module _ (v : Version) (body : List ℕ) (r : Reader) (at count turns : ℕ) (f 
 
     -- the rest is this call and what follows it
     rest :
-        countOf v body
+        eventCount v body
         ≡ count + cond (notFull (run .halt)) (length (run .seen)) (length (run .seen) + events (4096 * (turns - 1)) (run .reader) (drop (run .used) (drop at body)))
     rest =
         let n = 4096 * (turns - 1) in
         let e : 4096 * turns ≡ 4096 + n = omega (arith, h) in
         let p = ap (λ (x : Run). length (x .seen)) (runs-split (allOf true) 4096 n r (drop at body))
-        ∙ joined-count (run .halt) run (calls n (run .reader) (drop (run .used) (drop at body)) true) in
+        ∙ continued-count (run .halt) run (calls n (run .reader) (drop (run .used) (drop at body)) true) in
         f .rest ∙ ap (λ (k : ℕ). count + events k r (drop at body)) e ∙ ap (λ (k : ℕ). count + k) p
 
     pub far-added : a .count ≤ 4096
@@ -77,7 +77,7 @@ module _ (v : Version) (body : List ℕ) (r : Reader) (at count turns : ℕ) (f 
     pub far-sum : count + a .count ≤ most
     far-sum = omega (arith, far-added, f .bound, h)
 
-    pub far-end : notFull (haltOf (a .stop)) ≡ true → count + a .count ≡ countOf v body
+    pub far-end : notFull (haltOf (a .stop)) ≡ true → count + a .count ≡ eventCount v body
     far-end e =
         let q : notFull (run .halt) ≡ true = ap notFull (sym (t .halt)) ∙ e in
         let s = rw q at rest in

@@ -1,6 +1,6 @@
 // How many events a body has, by calls of many events, for C and Rust programs to link. A library of its own, as count_each is.
 ghost use mathlib.Core.Path.{_≡_};
-ghost use Rattle.count.specs.Count.{versionIf, countOf};
+ghost use Rattle.count.specs.Count.{versionIf, eventCount};
 ghost use Rattle.many.specs.Many.{haltOf};
 ghost use Rattle.count_many.specs.Ends.{notFull};
 use many::Stop;
@@ -24,7 +24,7 @@ fn ended(stop: Stop) -> bool
 // The number of events before finish or a refusal, read 4,096 events a call; second says that the version is 2.
 #[no_mangle]
 pub extern "C" fn jolzerv_count_many(second: bool, body: &[u8]) -> u64
-    ensures { λ r. ⌜ r ≡ countOf (versionIf second) (now (body .entry)) ⌝ }
+    ensures { λ r. ⌜ r ≡ eventCount (versionIf second) (now (body .entry)) ⌝ }
 {
     let mut rows = [0i32; 32768];
     let mut tens = [0i32; 81920];
