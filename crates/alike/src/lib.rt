@@ -181,10 +181,11 @@ fn same_pending(a: Pending, b: Pending) -> bool
 fn same_places(a: Scalars, b: Scalars) -> bool
     ensures { λ r. ⌜ r ≡ samePlaces a b ⌝ }
 {
-    good::both(
-        same_number(a.tick, b.tick),
-        same_number(a.largest, b.largest),
-    )
+    let s = a.tick;
+    let t = b.tick;
+    let l = a.largest;
+    let m = b.largest;
+    good::both(same_number(s, t), same_number(l, m))
 }
 
 fn same_flags(a: Scalars, b: Scalars) -> bool
@@ -194,10 +195,7 @@ fn same_flags(a: Scalars, b: Scalars) -> bool
     let w = b.version;
     good::both(
         same_flag(is_second(v), is_second(w)),
-        good::both(
-            same_flag(a.inside, b.inside),
-            same_flag(a.closed, b.closed),
-        ),
+        good::both(same_flag(a.inside, b.inside), same_flag(a.closed, b.closed)),
     )
 }
 

@@ -7,4 +7,4 @@ pub same-board-spec : {M : Type 1} → statement M
 same-board-spec =
     tie.close
     (tie.spec (λ c κs. search needs) (λ c κs. search needs) (λ c κs. search needs) (λ c κs. search needs) (λ c κs. search needs)
-    (λ c. cc))
+    (λ c. rw (c .before .before .same-cid .ensures, c .before .before .before .before .tick-of .ensures, c .before .before .before .tick-of2 .ensures, c .before .same-entries .ensures) at (c .both .ensures)))

@@ -19,7 +19,18 @@ returns c =
     let b : back (kinds .number2 .result) = search needs in
     let d : back (clients .before .client-of .result) = search needs in
     let e : back (clients .client-of2 .result) = search needs in
-    cc
+    rw (
+      c .before .before .before .before .same-number .ensures,
+      c .before .same-number2 .ensures,
+      a,
+      b,
+      d,
+      e,
+      kinds .before .number .ensures,
+      kinds .number2 .ensures,
+      clients .before .client-of .ensures,
+      clients .client-of2 .ensures,
+    ) at (c .both .ensures)
 
 pub same-kind-spec : {M : Type 1} → statement M
 same-kind-spec =

@@ -14,7 +14,7 @@ returns c =
     let t : toZ w32 (ofZ w32 (b .tick)) ≡ b .tick = search needs in
     let l : toZ w32 (ofZ w32 (a .largest)) ≡ a .largest = search needs in
     let m : toZ w32 (ofZ w32 (b .largest)) ≡ b .largest = search needs in
-    cc
+    rw (c .before .before .same-number .ensures, c .before .same-number2 .ensures, s, t, l, m) at (c .both .ensures)
 
 pub same-places-spec : {M : Type 1} → statement M
 same-places-spec =

@@ -6,4 +6,5 @@ use Rattle.alike.proofs.same_reader.Tie as tie
 pub same-reader-spec : {M : Type 1} → statement M
 same-reader-spec =
     tie.close
-    (tie.spec (λ c κs. search needs) (λ c κs. search needs) (λ c κs. search needs) (λ c. cc))
+    (tie.spec (λ c κs. search needs) (λ c κs. search needs) (λ c κs. search needs)
+    (λ c. rw (c .before .before .same-scalars .ensures, c .before .same-entries .ensures) at (c .both .ensures)))
