@@ -1,12 +1,13 @@
 -- The inputs of a test program: one behind the other, each after its length in one to three bytes, the low one first.
-use Prim.Native.Nat.{ℕ, _+_, _*_}
+use Prim.Native.Nat.{ℕ, zero, suc, _+_, _*_}
 use mathlib.Core.Bool.{cond}
 use mathlib.Core.List.{List}
 use lib.ListN.{length, getD}
 use lib.Dec.{leb}
-use Rattle.packer.specs.Parts.{readRaw}
+use Rattle.packer.specs.Parts.{part, readRaw}
+use Rattle.packer.specs.declared.Part.{Part}
 use Rattle.packer.specs.declared.PartRead.{PartRead}
-use Rattle.packer.specs.declared.PartRead.the-variants.{RunsOut}
+use Rattle.packer.specs.declared.PartRead.the-variants.{Got, RunsOut}
 
 -- byte k of a number of so many bytes at a place
 unfoldable pub digitAt : List ℕ → ℕ → ℕ → ℕ → ℕ
@@ -19,3 +20,28 @@ lengthAt s at width = digitAt s at width 0 + 256 * digitAt s at width 1 + 65536 
 -- the input whose length begins at a place: its part and the place of the next; or that no whole one is left
 unfoldable pub caseAt : List ℕ → ℕ → ℕ → PartRead
 caseAt s at width = cond (leb (at + width) (length s)) (readRaw (lengthAt s at width) s (at + width)) RunsOut
+
+-- ---- the inputs from the first on
+
+-- the place of the next input; the same where none is left
+abbrev pub nextOf : ℕ → PartRead → ℕ
+nextOf at (Got p next) = next
+nextOf at RunsOut = at
+
+abbrev pub partOf : PartRead → Part
+partOf (Got p next) = p
+partOf RunsOut = part 0 0
+
+abbrev pub wholeOf : PartRead → ℕ
+wholeOf (Got p next) = 1
+wholeOf RunsOut = 0
+
+-- the place of input k, counted from 0
+unfoldable pub placeOf : ℕ → List ℕ → ℕ → ℕ
+placeOf zero s width = 0
+placeOf (suc k) s width = nextOf (placeOf k s width) (caseAt s (placeOf k s width) width)
+
+-- how many of the first k are there
+unfoldable pub countTo : ℕ → List ℕ → ℕ → ℕ
+countTo zero s width = 0
+countTo (suc k) s width = countTo k s width + wholeOf (caseAt s (placeOf k s width) width)

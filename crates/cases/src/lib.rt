@@ -1,9 +1,11 @@
 // What test programs share. Their inputs stand one behind the other, each after its length in one to three bytes, the low one first.
 ghost use mathlib.Core.Path.{_≡_};
 ghost use Prim.Native.Nat.{_+_, _-_, _<_, _≤_, min};
-ghost use lib.ListN.{length};
+ghost use lib.ListN.{length, getD};
+ghost use mir.Syntax.{w32};
+ghost use mir.Val.{toZ};
 ghost use Rattle.packer.specs.Parts.{part, shown};
-ghost use Rattle.cases.specs.Cases.{digitAt, caseAt};
+ghost use Rattle.cases.specs.Cases.{digitAt, caseAt, nextOf, partOf, wholeOf, placeOf, countTo};
 use packer::Part;
 use packer::PartRead;
 
@@ -39,6 +41,98 @@ pub fn case_at(s: &[u8], at: usize, width: usize) -> PartRead
     let middle = digit_at(s, at, width, 1);
     let high = digit_at(s, at, width, 2);
     packer::read_raw(s, at + width, low + 256 * middle + 65536 * high)
+}
+
+// The place of the next input; the same place where no whole one is left.
+fn next_of(at: usize, read: PartRead) -> usize
+    ensures { λ r. ⌜ r ≡ nextOf at read ⌝ }
+{
+    match read {
+        PartRead::Got { part: _, next } => next,
+        PartRead::RunsOut => at,
+    }
+}
+
+fn nothing() -> Part
+    ensures { λ r. ⌜ r ≡ part 0 0 ⌝ }
+{
+    Part { at: 0, len: 0 }
+}
+
+fn part_of(read: PartRead) -> Part
+    ensures { λ r. ⌜ r ≡ partOf read ⌝ }
+{
+    match read {
+        PartRead::Got { part, next: _ } => part,
+        PartRead::RunsOut => nothing(),
+    }
+}
+
+fn whole_of(read: PartRead) -> usize
+    ensures { λ r. ⌜ (r ≡ wholeOf read) × (r ≤ 1) ⌝ }
+{
+    match read {
+        PartRead::Got { part: _, next: _ } => 1,
+        PartRead::RunsOut => 0,
+    }
+}
+
+// The place of input k, counted from 0.
+fn place_of(s: &[u8], width: usize, k: usize) -> usize
+    ensures { λ r. ⌜ r ≡ placeOf k (now (s .entry)) width ⌝ }
+{
+    let mut at: usize = 0;
+    let mut i: usize = 0;
+    while i < k {
+        at = next_of(at, case_at(s, at, width));
+        i += 1;
+    }
+    at
+}
+
+// How many whole inputs there are.
+pub fn count(s: &[u8], width: usize) -> usize
+    ensures { λ r. ⌜ r ≡ countTo (length (now (s .entry))) (now (s .entry)) width ⌝ }
+{
+    let mut n: usize = 0;
+    let mut at: usize = 0;
+    let mut i: usize = 0;
+    while i < s.len() {
+        let read = case_at(s, at, width);
+        n += whole_of(read);
+        at = next_of(at, read);
+        i += 1;
+    }
+    n
+}
+
+// The bytes of input k; none where there are not so many.
+pub fn nth(s: &[u8], width: usize, k: usize) -> &[u8]
+    ensures { λ r. ⌜ now r ≡ shown (now (s .entry)) (partOf (caseAt (now (s .entry)) (placeOf k (now (s .entry)) width) width)) ⌝ }
+{
+    packer::show(s, part_of(case_at(s, place_of(s, width, k), width)))
+}
+
+fn word(b: u8) -> u32
+    ensures { λ r. ⌜ r ≡ b ⌝ }
+{
+    b as u32
+}
+
+fn first_byte(s: &[u8]) -> u32
+    ensures { λ r. ⌜ r ≡ getD (now (s .entry)) 0 0 ⌝ }
+{
+    if s.len() == 0 {
+        return 0;
+    }
+    word(s[0])
+}
+
+// The first byte as a number; 0 if there is none.
+pub fn first(s: &[u8]) -> i32
+    ensures { λ r. ⌜ r ≡ toZ w32 (getD (now (s .entry)) 0 0) ⌝ }
+{
+    num::signed(first_byte(s))
 }
 
 pub fn difference(a: usize, b: usize) -> usize

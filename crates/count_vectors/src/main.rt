@@ -3,36 +3,14 @@
 // (version, tick, largest client), `good a b` (1 if the reader is good; the same of that reader at tick -1) and `events n n n`.
 use kinds::Version;
 use libc::STDOUT_FILENO;
-use lines::Ending;
-use packer::PartRead;
 use reader::WantedAnswer;
-use refusal::Refusal;
 use state::Reader;
 use state::Scalars;
-use varint::Wrote;
+use texts::Text;
 
-fn print(line: &[u8], n: usize) {
-    io::write_all(STDOUT_FILENO, cases::window(line, 0, n));
-}
-
-fn print_numbers(word: &[u8], numbers: &[i32]) {
-    let mut line = [0u8; 138];
-    let Wrote::Past(n) = lines::write_plain(word, numbers, &mut line, 0) else {
-        return;
-    };
-    print(&line, n);
-}
-
-fn refused(why: Refusal) {
-    let mut line = [0u8; 138];
-    let Wrote::Past(n) = lines::write_last(Ending::Refused(why), &mut line, 0) else {
-        return;
-    };
-    print(&line, n);
-}
-
-fn number(b: u8) -> i32 {
-    b as i32
+fn print(text: Text) {
+    let bytes = text.bytes;
+    io::write_all(STDOUT_FILENO, cases::window(&bytes, 0, text.len));
 }
 
 fn small(n: u64) -> i32 {
@@ -79,32 +57,24 @@ fn bad(reader: Reader) -> Reader {
 fn print_reader(reader: Reader) {
     let s = reader.scalars;
     let version = s.version;
-    print_numbers(b"wanted", &[version_number(version), s.tick, s.largest]);
-    print_numbers(
-        b"good",
-        &[
-            flag(reader::is_good(reader)),
-            flag(reader::is_good(bad(reader))),
-        ],
-    );
+    print(texts::plain(b"wanted", &[version_number(version), s.tick, s.largest]));
+    let fine = flag(reader::is_good(reader));
+    let spoilt = flag(reader::is_good(bad(reader)));
+    print(texts::plain(b"good", &[fine, spoilt]));
 }
 
 fn print_counts(second: bool, body: &[u8]) {
-    print_numbers(
-        b"events",
-        &[
-            small(count_each::jolzerv_count_each(second, body)),
-            small(count_lent::jolzerv_count_lent(second, body)),
-            small(count_many::jolzerv_count_many(second, body)),
-        ],
-    );
+    let each = small(count_each::jolzerv_count_each(second, body));
+    let lent = small(count_lent::jolzerv_count_lent(second, body));
+    let many = small(count_many::jolzerv_count_many(second, body));
+    print(texts::plain(b"events", &[each, lent, many]));
 }
 
 fn run_case(input: &[u8]) {
     if input.len() == 0 {
         return;
     }
-    let wanted = reader::wanted(number(input[0]));
+    let wanted = reader::wanted(cases::first(input));
     let answer = wanted.answer;
     let reader = wanted.reader;
     match answer {
@@ -112,27 +82,16 @@ fn run_case(input: &[u8]) {
             print_reader(reader);
             let s = reader.scalars;
             let version = s.version;
-            print_counts(is_second(version), &input[1..]);
+            print_counts(is_second(version), cases::window(input, 1, input.len()));
         }
-        WantedAnswer::Refused(why) => refused(why),
-    }
-}
-
-fn run(s: &[u8]) {
-    let mut at: usize = 0;
-    let mut turns: usize = 0;
-    while turns < s.len() {
-        turns += 1;
-        let PartRead::Got { part, next } = cases::case_at(s, at, 2) else {
-            return;
-        };
-        run_case(packer::show(s, part));
-        at = next;
+        WantedAnswer::Refused(why) => print(texts::refused(why)),
     }
 }
 
 fn main() {
     let mut buf = io::large_buffer();
     let n = io::read_full(0, &mut buf);
-    run(&buf[..n]);
+    for k in 0..cases::count(&buf[..n], 2) {
+        run_case(cases::nth(&buf[..n], 2, k));
+    }
 }

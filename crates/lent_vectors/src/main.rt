@@ -7,17 +7,15 @@ use kinds::Version;
 use kinds::VersionOf;
 use libc::STDOUT_FILENO;
 use lines::Ending;
+use many::ManyAnswer;
 use many::Stop;
-use packer::Part;
-use packer::PartRead;
-use refusal::Refusal;
 use state::Answer;
 use state::Entries;
-use state::Event;
 use state::Pending;
 use state::Reader;
 use state::Scalars;
-use varint::Wrote;
+use texts::Text;
+use texts::Used;
 
 // ---- lines
 
@@ -25,26 +23,9 @@ fn print(text: &[u8]) {
     io::write_all(STDOUT_FILENO, text);
 }
 
-// The first n bytes.
-fn print_start(line: &[u8], n: usize) {
-    let start = Part { at: 0, len: n };
-    print(packer::show(line, start));
-}
-
-fn print_line(event: Event, input: [i32; 10]) {
-    let mut line = [0u8; 256];
-    let Wrote::Past(n) = event_lines::write_line(event, input, &mut line, 0) else {
-        return;
-    };
-    print_start(&line, n);
-}
-
-fn print_last(ending: Ending) {
-    let mut line = [0u8; 256];
-    let Wrote::Past(n) = lines::write_last(ending, &mut line, 0) else {
-        return;
-    };
-    print_start(&line, n);
+fn print_text(text: Text) {
+    let bytes = text.bytes;
+    print(cases::window(&bytes, 0, text.len));
 }
 
 // ---- readers made by hand
@@ -91,41 +72,6 @@ fn good_scalars() -> Scalars {
     scalars_of(0, -1, Pending::NoKind, false)
 }
 
-// ---- whether a reader is the same
-
-fn same_cid(a: Cid, b: Cid) -> bool {
-    match a {
-        Cid::Of(c) => match b {
-            Cid::Of(d) => c == d,
-            Cid::NoCid => false,
-        },
-        Cid::NoCid => match b {
-            Cid::Of(_) => false,
-            Cid::NoCid => true,
-        },
-    }
-}
-
-fn pending_cid(pending: Pending) -> Cid {
-    match pending {
-        Pending::Is(kind) => Cid::Of(kind.number()),
-        Pending::NoKind => Cid::NoCid,
-    }
-}
-
-fn same_scalars(a: Scalars, b: Scalars) -> bool {
-    let p = a.pending;
-    let q = b.pending;
-    let c = a.remembered;
-    let d = b.remembered;
-    (a.tick == b.tick)
-        & (a.inside == b.inside)
-        & (a.largest == b.largest)
-        & (a.closed == b.closed)
-        & same_cid(pending_cid(p), pending_cid(q))
-        & same_cid(c, d)
-}
-
 fn all_are(xs: &[i32], n: i32) -> bool {
     let mut i: usize = 0;
     while i < xs.len() {
@@ -135,14 +81,6 @@ fn all_are(xs: &[i32], n: i32) -> bool {
         i += 1;
     }
     true
-}
-
-fn same_reader(a: Reader, b: Reader) -> bool {
-    let s = a.scalars;
-    let t = b.scalars;
-    let e = a.entries;
-    let f = b.entries;
-    same_scalars(s, t) & alike::same_entries(e, f)
 }
 
 // ---- the calls on such a reader
@@ -214,22 +152,25 @@ fn by_lent(reader: Reader) {
     let answer = read.answer;
     print(b"lent");
     let tens = all_are(&input, 1) & all_are(&former, 2);
-    print_same(same_reader(left, reader) & tens);
-    match answer {
-        Answer::Event { event, used: _ } => print_line(event, input),
-        Answer::More => print(b"more\n"),
-        Answer::Finish { used: _ } => print_last(Ending::Finish),
-        Answer::Refused(r) => print_last(Ending::Refused(r)),
-    }
+    print_same(alike::same_reader(left, reader) & tens);
+    print_text(texts::told(answer, input));
 }
 
 fn print_stop(stop: Stop) {
     match stop {
         Stop::Full => print(b"full\n"),
         Stop::More => print(b"more\n"),
-        Stop::Finish => print_last(Ending::Finish),
-        Stop::Refused(r) => print_last(Ending::Refused(r)),
+        Stop::Finish => print_text(texts::last(Ending::Finish)),
+        Stop::Refused(r) => print_text(texts::refused(r)),
     }
+}
+
+// What became of the memory lent to a call of many events.
+fn print_many(many: ManyAnswer, reader: Reader, lent: bool) {
+    let left = many.reader;
+    let stop = many.stop;
+    print_same(alike::same_reader(left, reader) & lent);
+    print_stop(stop);
 }
 
 // Room for four events.
@@ -238,26 +179,19 @@ fn by_many(reader: Reader) {
     let mut rows = [3i32; 32];
     let mut tens = [4i32; 80];
     let many = many::read_many(reader, &body, true, &mut rows, &mut tens);
-    let left = many.reader;
-    let stop = many.stop;
     print(b"many");
-    let lent = all_are(&rows, 3) & all_are(&tens, 4);
-    print_same(same_reader(left, reader) & lent);
-    print_stop(stop);
+    print_many(many, reader, all_are(&rows, 3) & all_are(&tens, 4));
 }
 
 // Room for no row.
 fn without_room(reader: Reader) {
     let body = BODY;
-    let mut rows = [3i32; 7];
+    let mut row = [3i32; 7];
     let mut tens = [4i32; 80];
-    let many = many::read_many(reader, &body, true, &mut rows, &mut tens);
-    let left = many.reader;
-    let stop = many.stop;
+    let none = many::read_many(reader, &body, true, &mut row, &mut tens);
+    let lent = all_are(&row, 3) & all_are(&tens, 4);
     print(b"no room");
-    let lent = all_are(&rows, 3) & all_are(&tens, 4);
-    print_same(same_reader(left, reader) & lent);
-    print_stop(stop);
+    print_many(none, reader, lent);
 }
 
 fn each_call(scalars: Scalars, entries: Entries) {
@@ -302,87 +236,54 @@ fn good_states() {
 
 // ---- bodies
 
-// A body read whole: every window reaches to its end and is the last.
-fn read_body(version: Version, body: &[u8]) {
-    let mut reader = Reader::empty(version);
-    let mut at: usize = 0;
-    let mut turns: usize = 0;
-    while turns < 400000 {
-        turns += 1;
-        let read = lent_call(reader, from(body, at));
-        let answer = read.answer;
-        let input = read.input;
-        let Used::Bytes(used) = told(answer, input) else {
-            return;
-        };
-        let next = read.reader;
-        reader = next;
-        at = count::past(at, used, body.len());
-    }
-}
-
-// The bytes that an event used; any other answer ends the body.
-enum Used {
-    Bytes(usize),
-    NoEvent,
-}
-
-fn told(answer: Answer, input: [i32; 10]) -> Used {
-    match answer {
-        Answer::Event { event, used } => {
-            print_line(event, input);
-            Used::Bytes(used)
-        }
-        Answer::More => Used::NoEvent,
-        Answer::Finish { used: _ } => {
-            print_last(Ending::Finish);
-            Used::NoEvent
-        }
-        Answer::Refused(r) => {
-            print_last(Ending::Refused(r));
-            Used::NoEvent
-        }
-    }
-}
-
-fn from(body: &[u8], at: usize) -> &[u8] {
-    if body.len() < at {
-        return packer::show(body, Part { at: 0, len: 0 });
-    }
-    packer::show(
-        body,
-        Part {
-            at,
-            len: body.len() - at,
-        },
-    )
-}
-
 fn run_case(input: &[u8]) {
-    if input.len() == 0 {
-        print_last(Ending::Refused(Refusal::UnknownVersion));
-        return;
-    }
-    match kinds::version_of(number(input[0])) {
-        VersionOf::Is(version) => read_body(version, &input[1..]),
-        VersionOf::Refused(r) => print_last(Ending::Refused(r)),
+    match kinds::version_of(cases::first(input)) {
+        VersionOf::Is(version) => read_body(version, cases::window(input, 1, input.len())),
+        VersionOf::Refused(r) => print_text(texts::refused(r)),
     }
 }
 
-fn number(b: u8) -> i32 {
-    b as i32
+// A reader and its place in the body; or that it is read.
+struct Spot {
+    reader: Reader,
+    at: usize,
+    over: bool,
 }
 
-fn run(s: &[u8]) {
-    let mut at: usize = 0;
-    let mut turns: usize = 0;
-    while turns < s.len() {
-        turns += 1;
-        let PartRead::Got { part, next } = cases::case_at(s, at, 2) else {
+// A call with a window to the body's end, which is the last.
+fn one_call(spot: Spot, body: &[u8]) -> Spot {
+    let reader = spot.reader;
+    let read = lent_call(reader, cases::window(body, spot.at, body.len()));
+    let answer = read.answer;
+    let input = read.input;
+    let left = read.reader;
+    print_text(texts::told(answer, input));
+    match texts::used_in(answer) {
+        Used::Bytes(used) => Spot {
+            reader: left,
+            at: cases::past(spot.at, used, body.len()),
+            over: false,
+        },
+        Used::NoEvent => Spot {
+            reader: left,
+            at: spot.at,
+            over: true,
+        },
+    }
+}
+
+fn read_body(version: Version, body: &[u8]) {
+    let reader = Reader::empty(version);
+    let mut spot = Spot {
+        reader,
+        at: 0,
+        over: false,
+    };
+    for _ in 0..400000usize {
+        spot = one_call(spot, body);
+        if spot.over {
             return;
-        };
-        run_case(packer::show(s, part));
-        at = next;
+        }
     }
 }
 
@@ -392,5 +293,7 @@ fn main() {
     good_states();
     let mut buf = io::large_buffer();
     let n = io::read_full(0, &mut buf);
-    run(&buf[..n]);
+    for k in 0..cases::count(&buf[..n], 2) {
+        run_case(cases::nth(&buf[..n], 2, k));
+    }
 }

@@ -3,7 +3,8 @@
 // many bytes. Each is called with the flag off and on: where the bytes run out the second call is to be refused 3, elsewhere to say the
 // same.
 ghost use Prim.Native.Nat.{_<_};
-use extensions::Extension;
+use kinds::Kind;
+use item::Record;
 use item::Tag;
 use kinds::Kind;
 use kinds::Version;
@@ -13,6 +14,7 @@ use packer::PartRead;
 use records::CallAnswer;
 use records::RecordCall;
 use refusal::Refusal;
+use shapes::Fields;
 
 // What is printed of each: 1 the kind's client, 2 a number, 4 an identifier, 8 another number, 16 a part, 32 ten numbers, 64 arguments.
 const FIELDS: [u8; 32] = [
@@ -110,42 +112,49 @@ fn say(text: &[u8]) {
     io::write_all(STDOUT_FILENO, text);
 }
 
-// The 20 extensions, the kinds, UnknownEx.
-fn print_name(row: usize) {
-    match row {
-        0 => say(b"Antibot"),
-        1 => say(b"AuthInit"),
-        2 => say(b"AuthLogin"),
-        3 => say(b"AuthLogout"),
-        4 => say(b"Ddnetver"),
-        5 => say(b"DdnetverOld"),
-        6 => say(b"Joinver6"),
-        7 => say(b"Joinver7"),
-        8 => say(b"PlayerFinish"),
-        9 => say(b"PlayerName"),
-        10 => say(b"PlayerReady"),
-        11 => say(b"PlayerRejoin"),
-        12 => say(b"PlayerSwap"),
-        13 => say(b"PlayerTeam"),
-        14 => say(b"TeamFinish"),
-        15 => say(b"TeamLoadFailure"),
-        16 => say(b"TeamLoadSuccess"),
-        17 => say(b"TeamPractice"),
-        18 => say(b"TeamSaveFailure"),
-        19 => say(b"TeamSaveSuccess"),
-        20 => say(b"PlayerDiff"),
-        21 => say(b"Finish"),
-        22 => say(b"TickSkip"),
-        23 => say(b"PlayerNew"),
-        24 => say(b"PlayerOld"),
-        25 => say(b"InputDiff"),
-        26 => say(b"InputNew"),
-        27 => say(b"Message"),
-        28 => say(b"Join"),
-        29 => say(b"Drop"),
-        30 => say(b"ConsoleCommand"),
-        _ => say(b"UnknownEx"),
-    }
+// The 20 extensions, the kinds, UnknownEx: their names one behind the other, and where each begins.
+const STARTS: [usize; 33] = [
+    0,
+    7,
+    15,
+    24,
+    34,
+    42,
+    53,
+    61,
+    69,
+    81,
+    91,
+    102,
+    114,
+    124,
+    134,
+    144,
+    159,
+    174,
+    186,
+    201,
+    216,
+    226,
+    232,
+    240,
+    249,
+    258,
+    267,
+    275,
+    282,
+    286,
+    290,
+    304,
+    313,
+];
+
+fn print_name(row: usize)
+    requires { ⌜ row < 32 ⌝ }
+{
+    let names =
+        b"AntibotAuthInitAuthLoginAuthLogoutDdnetverDdnetverOldJoinver6Joinver7PlayerFinishPlayerNamePlayerReadyPlayerRejoinPlayerSwapPlayerTeamTeamFinishTeamLoadFailureTeamLoadSuccessTeamPracticeTeamSaveFailureTeamSaveSuccessPlayerDiffFinishTickSkipPlayerNewPlayerOldInputDiffInputNewMessageJoinDropConsoleCommandUnknownEx";
+    say(cases::window(names, STARTS[row], STARTS[row + 1]));
 }
 
 fn print_unsigned(n: u32) {
@@ -226,22 +235,8 @@ fn has(fields: u8, bit: u8) -> bool
     fields / bit % 2 == 1
 }
 
-fn print_record(w: &[u8], used: usize, call: RecordCall) {
-    let value = call.value;
-    let item = value.item;
-    let args = value.args;
-    let t = item.take_apart();
-    let tag = t.tag;
-    let f = t.fields;
-    let text = f.text;
-    let row = row_of(tag);
-    let fields = FIELDS[row];
-    io::print_decimal(STDOUT_FILENO, used as u64);
-    say(b" ");
-    print_name(row);
-    if let Tag::Plain(kind) = tag {
-        print_client(kind);
-    }
+// A number, an identifier and another number.
+fn print_numbers(w: &[u8], fields: u8, f: Fields) {
     if has(fields, 2) {
         print_signed(f.first);
     }
@@ -259,6 +254,10 @@ fn print_record(w: &[u8], used: usize, call: RecordCall) {
             print_signed(f.second);
         }
     }
+}
+
+// A part, ten numbers and arguments.
+fn print_rest(w: &[u8], fields: u8, text: Part, value: Record) {
     if has(fields, 16) {
         print_bytes(packer::show(w, text));
     }
@@ -267,9 +266,28 @@ fn print_record(w: &[u8], used: usize, call: RecordCall) {
         print_ten(input);
     }
     if has(fields, 64) {
+        let args = value.args;
         let parts = args.parts;
         print_args(w, args.count, parts);
     }
+}
+
+fn print_record(w: &[u8], used: usize, value: Record) {
+    let item = value.item;
+    let t = item.take_apart();
+    let tag = t.tag;
+    let f = t.fields;
+    let text = f.text;
+    let row = row_of(tag);
+    let fields = FIELDS[row];
+    io::print_decimal(STDOUT_FILENO, used as u64);
+    say(b" ");
+    print_name(row);
+    if let Tag::Plain(kind) = tag {
+        print_client(kind);
+    }
+    print_numbers(w, fields, f);
+    print_rest(w, fields, text, value);
 }
 
 fn print_refusal(r: Refusal) {
@@ -282,8 +300,9 @@ fn print_refusal(r: Refusal) {
 
 fn print_call(w: &[u8], call: RecordCall) {
     let answer = call.answer;
+    let value = call.value;
     match answer {
-        CallAnswer::Got(used) => print_record(w, used, call),
+        CallAnswer::Got(used) => print_record(w, used, value),
         CallAnswer::More => say(b"runs out"),
         CallAnswer::Refused(r) => print_refusal(r),
     }

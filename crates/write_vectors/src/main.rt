@@ -147,11 +147,14 @@ fn try_command(name: &[u8], cmd: Part, count: usize, arg: Part) {
     try_with(name, Version::V1, item, count, arg, b"a\0b");
 }
 
-fn numbers() {
+fn diffs() {
     try_diff(b"diff of -1", -1);
     try_diff(b"diff of -2147483648", -2147483648);
     try_diff(b"diff of 0", 0);
     try_diff(b"diff of 2147483647", 2147483647);
+}
+
+fn skips() {
     try_skip(b"skip of 2147483648", 2147483648);
     try_skip(b"skip of 4294967295", 4294967295);
     try_skip(b"skip of 2147483647", 2147483647);
@@ -161,10 +164,16 @@ fn commands() {
     try_command(b"command", part(0, 1), 0, part(0, 0));
     try_command(b"command with 00", part(0, 3), 0, part(0, 0));
     try_command(b"command outside", part(1, 3), 0, part(0, 0));
+}
+
+fn arguments() {
     try_command(b"argument", part(0, 1), 1, part(2, 1));
     try_command(b"argument with 00", part(0, 1), 1, part(0, 2));
     try_command(b"argument outside", part(0, 1), 1, part(2, 2));
     try_command(b"argument that does not count", part(0, 1), 0, part(2, 2));
+}
+
+fn many_arguments() {
     try_command(b"16 arguments", part(0, 1), 16, part(2, 1));
     try_command(b"17 arguments", part(0, 1), 17, part(2, 1));
     try_command(
@@ -263,16 +272,22 @@ fn try_places(name: &[u8], place: usize) {
     try_unknown(place, a);
 }
 
-fn parts() {
+fn strings() {
     try_strings(b"string", part(0, 1));
     try_strings(b"string with 00", part(0, 3));
     try_strings(b"empty string at the end", part(19, 0));
     try_strings(b"empty string behind the end", part(20, 0));
     try_strings(b"string to behind the end", part(18, 2));
+}
+
+fn data_parts() {
     try_data(b"data with 00", part(0, 3));
     try_data(b"empty data at the end", part(19, 0));
     try_data(b"empty data behind the end", part(20, 0));
     try_data(b"data to behind the end", part(18, 2));
+}
+
+fn huge_parts() {
     try_data(
         b"data of 18446744073709551615 bytes",
         part(2, 18446744073709551615),
@@ -281,9 +296,19 @@ fn parts() {
         b"data at 18446744073709551615",
         part(18446744073709551615, 2),
     );
+}
+
+fn places() {
     try_places(b"identifier to the end", 3);
     try_places(b"identifier to behind the end", 4);
     try_places(b"identifier at 18446744073709551615", 18446744073709551615);
+}
+
+fn all_parts() {
+    strings();
+    data_parts();
+    huge_parts();
+    places();
 }
 
 fn versions(version: Version) {
@@ -400,13 +425,21 @@ fn run(s: &[u8]) {
     }
 }
 
-fn main() {
-    numbers();
+// The records made by hand.
+fn by_hand() {
+    diffs();
+    skips();
     commands();
-    parts();
+    arguments();
+    many_arguments();
+    all_parts();
     versions(Version::V1);
     versions(Version::V2);
     identifiers();
+}
+
+fn main() {
+    by_hand();
     let mut buf = io::large_buffer();
     let n = io::read_full(0, &mut buf);
     run(&buf[..n]);

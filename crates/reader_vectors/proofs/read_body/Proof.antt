@@ -4,16 +4,9 @@ use borrow.Author.Needs.{needs}
 use Rattle.reader_vectors.proofs.read_body.Statement.{statement}
 use Rattle.reader_vectors.proofs.read_body.Tie as tie
 
-abbrev Inv-loop : tie.InvT-loop
-Inv-loop body reader₀ at₀ turns₀ reader at turns = turns ≤ 400000
-
-abbrev μ-loop : tie.MeasureT-loop
-μ-loop body reader₀ at₀ turns₀ reader at turns = 400000 - turns
-
 pub read-body-spec : {M : Type 1} → statement M
 read-body-spec =
-    tie.close
-    (tie.spec Inv-loop μ-loop (λ c κs. search needs) (λ c. search needs) (λ c. search needs) (λ c κs. search needs)
-    (λ c κs. search needs) (λ c. search needs) (λ c κs. search needs) (λ c κs. search needs) (λ c. search needs) (λ c. search needs)
-    (λ c. search needs) (λ c κs. search needs) (λ c. search needs) (λ c. search needs) (λ c κs. search needs) (λ c. search needs)
-    (λ c. search needs) (λ c. search needs) (λ c. search needs))
+    tie.close (tie.spec (λ body reader₀ at₀ counter₀ reader at counter. counter ≤ 400000)
+    (λ body reader₀ at₀ counter₀ reader at counter. 400000 - counter) (λ c κs. search needs) (λ c. search needs) (λ c κs. search needs)
+    (λ c κs. search needs) (λ c κs. search needs) (λ c κs. search needs) (λ c κs. search needs) (λ c. search needs) (λ c. search needs)
+    (λ c. search needs) (λ c κs. search needs) (λ c. search needs) (λ c. search needs) (λ c. search needs) (λ c. search needs))

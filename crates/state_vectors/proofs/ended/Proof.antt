@@ -1,0 +1,11 @@
+-- `state_vectors::ended` is safe and ends. Assumes nothing.
+use Prim.Native.Nat.{_≤_, _-_}
+use borrow.Author.Needs.{needs}
+use Rattle.state_vectors.proofs.ended.Statement.{statement}
+use Rattle.state_vectors.proofs.ended.Tie as tie
+
+pub ended-spec : {M : Type 1} → statement M
+ended-spec =
+    tie.close (tie.spec (λ body spot₀ counter₀ spot counter. counter ≤ 100) (λ body spot₀ counter₀ spot counter. 100 - counter)
+    (λ c κs. search needs) (λ c. search needs) (λ c κs. search needs) (λ c. search needs) (λ c. search needs) (λ c. search needs)
+    (λ c. search needs))
