@@ -3,7 +3,7 @@
 // many bytes. Each is called with the flag off and on: where the bytes run out the second call is to be refused 3, elsewhere to say the
 // same.
 ghost use Prim.Native.Nat.{_<_};
-use kinds::Kind;
+use extensions::Extension;
 use item::Record;
 use item::Tag;
 use kinds::Kind;

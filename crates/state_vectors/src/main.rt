@@ -10,8 +10,8 @@
 use back::BackAnswer;
 use back::Board;
 use back::BoardTick;
-use kinds::Cid;
 use item::Item;
+use kinds::Cid;
 use kinds::Kind;
 use kinds::Version;
 use libc::STDOUT_FILENO;
