@@ -12,7 +12,7 @@ use Rattle.kinds.specs.declared.Kind.{Kind}
 use Rattle.kinds.specs.declared.Kind.the-variants as kinds
 use Rattle.kinds.specs.declared.Version.{Version}
 use Rattle.kinds.specs.declared.Version.the-variants as versions
-use Rattle.state.specs.State.{same, every}
+use Rattle.state.specs.State.{sameInt, every}
 use Rattle.state.specs.declared.Pending.{Pending}
 use Rattle.state.specs.declared.Pending.the-variants as pendings
 use Rattle.state.specs.declared.Scalars.{Scalars}
@@ -24,7 +24,7 @@ abbrev pub sameMark : List ℕ → List ℕ → ℕ → Bool
 sameMark a b i = eqb (getD a i 0) (getD b i 0)
 
 abbrev pub sameNumber : List ℤ → List ℤ → ℕ → Bool
-sameNumber a b i = same (getD a i (pos 0)) (getD b i (pos 0))
+sameNumber a b i = sameInt (getD a i (pos 0)) (getD b i (pos 0))
 
 abbrev pub sameEntries : Entries → Entries → Bool
 sameEntries a b =
@@ -42,7 +42,7 @@ isSecond versions.V1 = false
 isSecond versions.V2 = true
 
 abbrev pub sameCid : Cid → Cid → Bool
-sameCid (cids.Of c) (cids.Of d) = same c d
+sameCid (cids.Of c) (cids.Of d) = sameInt c d
 sameCid (cids.Of c) cids.NoCid = false
 sameCid cids.NoCid (cids.Of d) = false
 sameCid cids.NoCid cids.NoCid = true
@@ -63,7 +63,7 @@ clientOf kinds.ConsoleCommand = pos 0
 clientOf kinds.Ex = pos 0
 
 abbrev pub sameKind : Kind → Kind → Bool
-sameKind a b = same (kindNumber a) (kindNumber b) && same (clientOf a) (clientOf b)
+sameKind a b = sameInt (kindNumber a) (kindNumber b) && sameInt (clientOf a) (clientOf b)
 
 abbrev pub samePending : Pending → Pending → Bool
 samePending (pendings.Is k) (pendings.Is l) = sameKind k l
@@ -72,7 +72,7 @@ samePending pendings.NoKind (pendings.Is l) = false
 samePending pendings.NoKind pendings.NoKind = true
 
 abbrev pub samePlaces : Scalars → Scalars → Bool
-samePlaces a b = same (a .tick) (b .tick) && same (a .largest) (b .largest)
+samePlaces a b = sameInt (a .tick) (b .tick) && sameInt (a .largest) (b .largest)
 
 abbrev pub sameFlags : Scalars → Scalars → Bool
 sameFlags a b =
@@ -86,6 +86,6 @@ abbrev pub sameScalars : Scalars → Scalars → Bool
 sameScalars a b = samePlaces a b && (sameFlags a b && sameKinds a b)
 
 -- the started tick, as a client that may be missing
-abbrev pub tickOf : BoardTick → Cid
-tickOf (ticks.In t) = cids.Of t
-tickOf ticks.NoTick = cids.NoCid
+abbrev pub boardTick : BoardTick → Cid
+boardTick (ticks.In t) = cids.Of t
+boardTick ticks.NoTick = cids.NoCid

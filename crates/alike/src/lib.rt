@@ -3,7 +3,7 @@ ghost use mathlib.Core.Path.{_≡_};
 ghost use Prim.Native.Nat.{_≤_};
 ghost use lib.ListN.{length};
 ghost use lib.Dec.{eqb};
-ghost use Rattle.state.specs.State.{same, every};
+ghost use Rattle.state.specs.State.{sameInt, every};
 ghost use Rattle.alike.specs.Alike.{
   sameMark,
   sameNumber,
@@ -18,7 +18,7 @@ ghost use Rattle.alike.specs.Alike.{
   sameFlags,
   sameKinds,
   sameScalars,
-  tickOf,
+  boardTick,
 };
 ghost use mathlib.Core.Bool.{_&&_};
 use back::Board;
@@ -38,7 +38,7 @@ fn same_mark(a: u8, b: u8) -> bool
 }
 
 fn same_number(a: i32, b: i32) -> bool
-    ensures { λ r. ⌜ r ≡ same a b ⌝ }
+    ensures { λ r. ⌜ r ≡ sameInt a b ⌝ }
 {
     a == b
 }
@@ -219,7 +219,7 @@ pub fn same_reader(a: Reader, b: Reader) -> bool
 }
 
 fn tick_of(tick: BoardTick) -> Cid
-    ensures { λ r. ⌜ r ≡ tickOf tick ⌝ }
+    ensures { λ r. ⌜ r ≡ boardTick tick ⌝ }
 {
     match tick {
         BoardTick::In(t) => Cid::Of(t),
@@ -228,7 +228,7 @@ fn tick_of(tick: BoardTick) -> Cid
 }
 
 pub fn same_board(a: Board, b: Board) -> bool
-    ensures { λ r. ⌜ r ≡ sameCid (tickOf (a .tick)) (tickOf (b .tick)) && sameEntries (a .entries) (b .entries) ⌝ }
+    ensures { λ r. ⌜ r ≡ sameCid (boardTick (a .tick)) (boardTick (b .tick)) && sameEntries (a .entries) (b .entries) ⌝ }
 {
     let s = a.tick;
     let t = b.tick;

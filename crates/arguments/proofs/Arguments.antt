@@ -22,7 +22,7 @@ use Rattle.item.specs.declared.Record.{Record}
 use Rattle.item.specs.declared.Tag.{Tag}
 use Rattle.item.specs.declared.Tag.the-variants.{Plain, Named, Other}
 use Rattle.refusal.specs.declared.Refusal.{Refusal}
-use Rattle.records.specs.Views.{answerIs, tidyAnswer, RestRead}
+use Rattle.records.specs.steps.Views.{answerIs, tidyAnswer, RestRead}
 use Rattle.item.specs.Contents.{ownContent}
 use Rattle.records.specs.declared.RecordAnswer.{RecordAnswer}
 use Rattle.records.specs.declared.RecordAnswer.the-variants as rests
@@ -37,12 +37,12 @@ use Rattle.state.specs.declared.Event.the-variants as events
 use Rattle.state.specs.declared.Answer.{Answer}
 use Rattle.state.specs.declared.Answer.the-variants as answers
 use Rattle.state.proofs.Every.{by-cond}
-use Rattle.rests.specs.Kinds.{otherSort}
+use Rattle.rests.specs.steps.Kinds.{otherSort}
 use Rattle.rests.proofs.Others.{no-other, by-other}
 use Rattle.rests.proofs.Slim.{otherSaid, slim-said}
 use Rattle.kinds.specs.Kinds.{isCommand}
 use Rattle.arguments.specs.Arguments.{kindArgs, tagArgs, answerArgs, saidWith}
-use Rattle.arguments.specs.Inside.{isRecord, ArgsFor}
+use Rattle.arguments.specs.steps.Inside.{isRecord, ArgsFor}
 use Rattle.arguments.proofs.Whole.{whole-got}
 use Rattle.arguments.proofs.Records.{FromRest, FromKind, call-given}
 

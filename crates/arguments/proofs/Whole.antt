@@ -11,7 +11,7 @@ use Rattle.packer.specs.declared.Part.{Part}
 use Rattle.packer.specs.declared.PartRead.{PartRead}
 use Rattle.packer.specs.declared.PartRead.the-variants as parts
 use Rattle.fields.specs.Fields.{Field, int, str, blob, Value, bytes, Reading, got, runsOut, refused, push, andThen, readField, readFields}
-use Rattle.extensions.specs.Extensions.{Payload, shaped, whole, payloadAt, find}
+use Rattle.extensions.specs.Extensions.{Payload, shaped, allData, payloadAt, find}
 use Rattle.extensions.specs.declared.Extension.{Extension}
 use Rattle.extensions.specs.declared.Found.{Found}
 use Rattle.extensions.specs.declared.Found.the-variants.{Known, Unknown}
@@ -22,7 +22,7 @@ use Rattle.kinds.specs.declared.Kind.the-variants as kinds
 use Rattle.item.specs.declared.Tag.{Tag}
 use Rattle.item.specs.declared.Tag.the-variants.{Plain, Named, Other}
 use Rattle.item.specs.Contents.{ownContent}
-use Rattle.rests.specs.Kinds.{isOther}
+use Rattle.rests.specs.steps.Kinds.{isOther}
 use Rattle.rests.proofs.Others.{no-other, by-other}
 use Rattle.kinds.specs.Kinds.{isCommand}
 
@@ -75,7 +75,7 @@ module _ (w : List ℕ) where
   whole-payload p k (shaped fs) next e =
       let x = readFields fs (take next w) (p .at) in
       whole-up next (asContent (Named k) x) (whole-as (Named k) x refl (rw e (counted fs (take next w) (p .at))))
-  whole-payload p k whole next e = whole-values (Named k) (bytes p ∷ []) refl (rw e)
+  whole-payload p k allData next e = whole-values (Named k) (bytes p ∷ []) refl (rw e)
 
   whole-found : (id p : Part) (f : Found) (next : ℕ) → Whole (ofFound w id p f next)
   whole-found id p (Known k) next = whole-payload p k (payloadAt k) next refl

@@ -2,7 +2,7 @@
 ghost use mathlib.Core.Path.{_≡_};
 ghost use Rattle.item.specs.Contents.{noArgs};
 ghost use Rattle.kinds.specs.Kinds.{isCommand};
-ghost use Rattle.arguments.specs.Inside.{recordEvent, isRecord, ArgsFor};
+ghost use Rattle.arguments.specs.steps.Inside.{recordEvent, isRecord, ArgsFor};
 use fields::Args;
 use kinds::Kind;
 use kinds::KindRead;

@@ -12,7 +12,7 @@ use borrow.Author.Tests.{lt-ltb, le-ltb, not-true, not-false}
 use mir.Syntax.{w32}
 use mir.Val.{SFits, ofZ}
 use Rattle.refusal.specs.declared.Refusal.the-variants.{BadState, NotLast}
-use Rattle.state.specs.State.{same, xOf, yOf, tenOf, withPlayer}
+use Rattle.state.specs.State.{sameInt, xOf, yOf, tenOf, withPlayer}
 use Rattle.state.specs.declared.Entries.{Entries}
 use Rattle.state.proofs.Numbers.{client-is}
 use Rattle.back.specs.Board.{board, goodBoard}
@@ -50,7 +50,7 @@ module _ (t : ℤ) (e : Entries) where
 
 module _ (t : ℤ) (e : Entries) (z : ℤ) (b : ℕ) (f : SFits w32 z) (q : b ≡ ofZ w32 z) (h : b < 128) where
   pub present-near : (x y : ℤ) (mark : ℕ) (old-x old-y : ℤ)
-      → onlyIf (eqb (getD (e .marks) b 0) 1 && (same (xOf e b) x && same (yOf e b) y)) (board (In t) (withPlayer e b mark old-x old-y))
+      → onlyIf (eqb (getD (e .marks) b 0) 1 && (sameInt (xOf e b) x && sameInt (yOf e b) y)) (board (In t) (withPlayer e b mark old-x old-y))
       ≡ unPresent t e z x y mark old-x old-y
   present-near x y mark old-x old-y = rw (client-is z b f q h, lt-ltb b 128 h)
 

@@ -8,7 +8,7 @@ use lib.Signed.{nonNeg}
 use Rattle.refusal.specs.declared.Refusal.{Refusal}
 use Rattle.refusal.specs.declared.Refusal.the-variants.{BadState, NotLast}
 use Rattle.fields.specs.Views.{zeros}
-use Rattle.state.specs.State.{same, present, xOf, yOf, withPlayer, holds, tenOf, withInput}
+use Rattle.state.specs.State.{sameInt, present, xOf, yOf, withPlayer, holds, tenOf, withInput}
 use Rattle.state.specs.Reading.{Event}
 use Rattle.state.specs.Reading as events
 use Rattle.state.specs.declared.Entries.{Entries}
@@ -33,7 +33,7 @@ onlyIf fits b = cond fits (was b) (refused NotLast)
 
 -- a client of 0 to 127, present at the event's position
 abbrev pub presentAt : Entries → ℕ → ℤ → ℤ → Bool
-presentAt e c x y = present e c && (same (xOf e c) x && same (yOf e c) y)
+presentAt e c x y = present e c && (sameInt (xOf e c) x && sameInt (yOf e c) y)
 
 -- ---- an event taken off a board: the entries, and tick t that was started
 
@@ -79,7 +79,7 @@ undoOf (events.other r) ten former = nothing
 -- every event but TickEnd fits only inside a tick
 abbrev pub takeOff : Undo → BoardTick → Entries → Back
 takeOff (start u) NoTick e = refused NotLast
-takeOff (start u) (In t) e = onlyIf (same t u) (board NoTick e)
+takeOff (start u) (In t) e = onlyIf (sameInt t u) (board NoTick e)
 takeOff (end u) NoTick e = onlyIf (nonNeg u) (board (In u) e)
 takeOff (end u) (In t) e = refused NotLast
 takeOff (new c x y) NoTick e = refused NotLast

@@ -5,7 +5,7 @@ ghost use Prim.Native.Nat.{_<_};
 ghost use lib.IntN.{ℤ};
 ghost use lib.Signed.{nonNeg};
 ghost use Rattle.refusal.specs.declared.Refusal.the-variants.{NotLast};
-ghost use Rattle.state.specs.State.{same, withPlayer, withInput};
+ghost use Rattle.state.specs.State.{sameInt, withPlayer, withInput};
 ghost use Rattle.state.specs.Views.{eventIs};
 ghost use Rattle.lookups.specs.Lookups.{posOf, inputFor};
 ghost use Rattle.back.specs.Board.{board, boardOf, goodTick, goodBoard};
@@ -258,7 +258,7 @@ fn un_input(
 }
 
 fn un_start(t: i32, entries: Entries, u: i32) -> SteppedBack
-    ensures { λ r. ⌜ r ≡ steppedFrom (board (In t) entries) (onlyIf (same t u) (board NoTick entries)) ⌝ }
+    ensures { λ r. ⌜ r ≡ steppedFrom (board (In t) entries) (onlyIf (sameInt t u) (board NoTick entries)) ⌝ }
 {
     if compare::same_number(t, u) {
         return stepped(BoardTick::NoTick, entries);

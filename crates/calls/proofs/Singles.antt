@@ -14,7 +14,7 @@ use Rattle.kinds.specs.declared.Version.{Version}
 use Rattle.kinds.specs.declared.Kind.{Kind}
 use Rattle.state.specs.State.{Memory}
 use Rattle.state.specs.Reading.{Event, Step, nextKind, goodCall, memoryOf, readCall, readerAfter}
-use Rattle.state.specs.Laws.{Told, usedIn}
+use Rattle.state.specs.Laws.{SaidLeaves, usedIn}
 use Rattle.state.specs.Acts.{HadKind, Had, WhyPlain, WhyPlayer, WhyInput, Act, ReadAct}
 use Rattle.state.specs.Acts as act
 use Rattle.state.specs.declared.Entries.{Entries}
@@ -40,7 +40,7 @@ IsMore (refuses k vs) = ⊥
 abbrev Fair : Reader → List ℕ → Bool → Step → Type 0
 Fair r w last t = (IsMore (t .said) → (last ≡ false) × (readerAfter t ≡ r)) × (usedIn (t .said) ≤ length w)
 
-told-more : (a : Said Event) (r : Reader) (m : Memory) (last : Bool) (t : Step) → m .entries ≡ r .entries → Told a (r .scalars) m last t
+told-more : (a : Said Event) (r : Reader) (m : Memory) (last : Bool) (t : Step) → m .entries ≡ r .entries → SaidLeaves a (r .scalars) m last t
     → IsMore a → (last ≡ false) × (readerAfter t ≡ r)
 told-more (gives e n) r m last t h k i = absurd i
 told-more more r m last t h k i =

@@ -32,9 +32,9 @@ abbrev pub partOf : PartRead → Part
 partOf (Got p next) = p
 partOf RunsOut = part 0 0
 
-abbrev pub wholeOf : PartRead → ℕ
-wholeOf (Got p next) = 1
-wholeOf RunsOut = 0
+abbrev pub wholeCase : PartRead → ℕ
+wholeCase (Got p next) = 1
+wholeCase RunsOut = 0
 
 -- the place of input k, counted from 0
 unfoldable pub placeOf : ℕ → List ℕ → ℕ → ℕ
@@ -44,4 +44,4 @@ placeOf (suc k) s width = nextOf (placeOf k s width) (caseAt s (placeOf k s widt
 -- how many of the first k are there
 unfoldable pub countTo : ℕ → List ℕ → ℕ → ℕ
 countTo zero s width = 0
-countTo (suc k) s width = countTo k s width + wholeOf (caseAt s (placeOf k s width) width)
+countTo (suc k) s width = countTo k s width + wholeCase (caseAt s (placeOf k s width) width)

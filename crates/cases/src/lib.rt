@@ -5,7 +5,7 @@ ghost use lib.ListN.{length, getD};
 ghost use mir.Syntax.{w32};
 ghost use mir.Val.{toZ};
 ghost use Rattle.packer.specs.Parts.{part, shown};
-ghost use Rattle.cases.specs.Cases.{digitAt, caseAt, nextOf, partOf, wholeOf, placeOf, countTo};
+ghost use Rattle.cases.specs.Cases.{digitAt, caseAt, nextOf, partOf, wholeCase, placeOf, countTo};
 use packer::Part;
 use packer::PartRead;
 
@@ -69,7 +69,7 @@ fn part_of(read: PartRead) -> Part
 }
 
 fn whole_of(read: PartRead) -> usize
-    ensures { λ r. ⌜ (r ≡ wholeOf read) × (r ≤ 1) ⌝ }
+    ensures { λ r. ⌜ (r ≡ wholeCase read) × (r ≤ 1) ⌝ }
 {
     match read {
         PartRead::Got { part: _, next: _ } => 1,

@@ -36,7 +36,7 @@ use Rattle.fields.specs.Fields.{
   readFields,
 }
 use Rattle.fields.proofs.Answers.{and-split}
-use Rattle.extensions.specs.Extensions.{Payload, shaped, whole, extensionRow, payloadAt, all, find}
+use Rattle.extensions.specs.Extensions.{Payload, shaped, allData, extensionRow, payloadAt, all, find}
 use Rattle.extensions.specs.declared.Extension.{Extension}
 use Rattle.extensions.specs.declared.Found.{Found}
 use Rattle.extensions.specs.declared.Found.the-variants.{Known, Unknown}
@@ -120,7 +120,7 @@ module _ {C : Type 0} {r : Refusal} where
 
 abbrev calmLoad : Payload → Bool
 calmLoad (shaped fs) = allCalm fs
-calmLoad whole = true
+calmLoad allData = true
 
 load-calm : (k : Extension) → calmLoad (payloadAt k) ≡ true
 unfolding payloadAt extensionRow all
@@ -130,7 +130,7 @@ module _ {C : Type 0} {r : Refusal} (w : List ℕ) where
   payload-calm : (p : Part) (k : Extension) (y : Payload) (n : ℕ) → calmLoad y ≡ true → ofPayload w p k y n ≡ refused r → C
   payload-calm p k (shaped fs) n c e =
       fields-calm fs (take n w) (p .at) c (as-calm (Named k) (readFields fs (take n w) (p .at)) (upto-calm n _ e))
-  payload-calm p k whole n c e = not-got e
+  payload-calm p k allData n c e = not-got e
 
   found-calm : (id p : Part) (f : Found) (n : ℕ) → ofFound w id p f n ≡ refused r → C
   found-calm id p (Known k) n e = payload-calm p k (payloadAt k) n (load-calm k) e

@@ -11,7 +11,7 @@ use Rattle.varint.specs.Integers.{readInt}
 use Rattle.varint.specs.declared.IntRead.{IntRead}
 use Rattle.varint.specs.declared.IntRead.the-variants as ints
 use Rattle.fields.specs.Fields.{refused}
-use Rattle.kinds.specs.Kinds.{withClient, extension, kindOf, afterNumber, readKind}
+use Rattle.kinds.specs.Kinds.{withClient, extensionKind, kindOf, afterNumber, readKind}
 use Rattle.kinds.specs.declared.Version.{Version}
 use Rattle.kinds.specs.declared.Version.the-variants.{V1, V2}
 use Rattle.kinds.specs.declared.Kind.{Kind}
@@ -27,7 +27,7 @@ client-never f ints.RunsOut e = not-out e
 abbrev Unknown : Version → ℤ → Refusal → Type 0
 Unknown v z r = (r ≡ UnknownType z) × UnknownKind v z
 
-in-one : (v : Version) (n : ℕ) (r : Refusal) → extension v n ≡ refused r → Unknown v (negsuc 10) r
+in-one : (v : Version) (n : ℕ) (r : Refusal) → extensionKind v n ≡ refused r → Unknown v (negsuc 10) r
 in-one V1 n r e = (cc, extensionInOne)
 in-one V2 n r e = not-got e
 

@@ -2,10 +2,10 @@
 use mathlib.Core.Bool.{Bool, true, false, _&&_}
 use mathlib.Core.List.{List, [], _∷_}
 use lib.IntN.{ℤ}
-use Rattle.state.specs.State.{same}
+use Rattle.state.specs.State.{sameInt}
 
 unfoldable pub sameAll : List ℤ → List ℤ → Bool
 sameAll [] [] = true
 sameAll [] (b ∷ l) = false
 sameAll (a ∷ k) [] = false
-sameAll (a ∷ k) (b ∷ l) = same a b && sameAll k l
+sameAll (a ∷ k) (b ∷ l) = sameInt a b && sameAll k l

@@ -3,11 +3,11 @@ ghost use mathlib.Core.Path.{_≡_};
 ghost use mathlib.Core.Bool.{_&&_};
 ghost use lib.Dec.{eqb};
 ghost use lib.Signed.{nonNeg};
-ghost use Rattle.state.specs.State.{same};
+ghost use Rattle.state.specs.State.{sameInt};
 ghost use Rattle.compare.specs.Compare.{sameAll};
 
 pub fn same_number(a: i32, b: i32) -> bool
-    ensures { λ r. ⌜ r ≡ same a b ⌝ }
+    ensures { λ r. ⌜ r ≡ sameInt a b ⌝ }
 {
     a == b
 }
@@ -35,7 +35,7 @@ pub fn not_negative(x: i32) -> bool
 
 // Whether an entry has mark 1 and the position x, y.
 pub fn at_position(mark: u8, px: i32, py: i32, x: i32, y: i32) -> bool
-    ensures { λ r. ⌜ r ≡ (eqb mark 1 && (same px x && same py y)) ⌝ }
+    ensures { λ r. ⌜ r ≡ (eqb mark 1 && (sameInt px x && sameInt py y)) ⌝ }
 {
     good::both(
         mark == 1,

@@ -20,7 +20,7 @@ use Rattle.many.proofs.Edges.{with-room}
 use Rattle.count.specs.Count.{most, eventCount}
 use Rattle.count.proofs.Runs.{sees-all, events, no-calls, most-calls}
 use Rattle.count.proofs.Singles.{windowAt, whole}
-use Rattle.count_many.specs.Ends.{notFull}
+use Rattle.count_many.specs.steps.Ends.{notFull}
 
 -- so many events were counted, and the rest is counted from the reader and the place reached, in so many turns at most
 pub record Far (v : Version) (body : List ℕ) (r : Reader) (at count turns : ℕ) : Type 0 where

@@ -2,7 +2,7 @@
 ghost use mathlib.Core.Path.{_≡_};
 ghost use Rattle.count.specs.Count.{versionIf, eventCount};
 ghost use Rattle.many.specs.Many.{haltOf};
-ghost use Rattle.count_many.specs.Ends.{notFull};
+ghost use Rattle.count_many.specs.steps.Ends.{notFull};
 use many::Stop;
 use state::Reader;
 

@@ -9,7 +9,7 @@ use lib.Seq.{getD-set-same, set-getD, set-set}
 use lib.Dec.{ltb, eqb}
 use lib.IntN.{ℤ, pos}
 use borrow.Author.Tests.{eqb-true, lt-ltb}
-use Rattle.state.specs.State.{same, present, xOf, yOf, withPlayer, moved, holds, tenOf, putTen, withInput, goodPlayer, goodPlayers, tenZeros, goodInput, goodInputs, goodEntries}
+use Rattle.state.specs.State.{sameInt, present, xOf, yOf, withPlayer, moved, holds, tenOf, putTen, withInput, goodPlayer, goodPlayers, tenZeros, goodInput, goodInputs, goodEntries}
 use Rattle.state.specs.Laws.{Sizes}
 use Rattle.state.specs.declared.Entries.{Entries}
 use Rattle.back.specs.Back.{sameAll, presentAt, formerInput}
@@ -75,8 +75,8 @@ module _ (e : Entries) (z : Sizes e) (c : ℕ) (h : c < 128) where
     -- a player who was absent
     pub absent-back : (x y : ℤ) → eqb (getD (e .marks) c 0) 1 ≡ false → withPlayer (withPlayer e c 1 x y) c 0 (pos 0) (pos 0) ≡ e
     absent-back x y a =
-        let b = blank (getD (e .marks) c 0) (same (xOf e c) (pos 0) && same (yOf e c) (pos 0)) (player-at c h) a in
-        let s = and-true (same (xOf e c) (pos 0)) (same (yOf e c) (pos 0)) (b .1) in
+        let b = blank (getD (e .marks) c 0) (sameInt (xOf e c) (pos 0) && sameInt (yOf e c) (pos 0)) (player-at c h) a in
+        let s = and-true (sameInt (xOf e c) (pos 0)) (sameInt (yOf e c) (pos 0)) (b .1) in
         rw (b .0, same-true (xOf e c) (pos 0) (s .0), same-true (yOf e c) (pos 0) (s .1)) at (player-back 1 x y)
 
     -- an input, where there was one or none

@@ -15,7 +15,7 @@ use Rattle.varint.proofs.Prefix.{int-fits}
 use Rattle.packer.specs.declared.Part.{Part}
 use Rattle.fields.specs.Fields.{int, Value, num, Reading, got, runsOut, refused, intField, push, andThen, readFields}
 use Rattle.fields.specs.Views.{numbers}
-use Rattle.kinds.specs.Kinds.{withClient, extension, kindOf, afterNumber, readKind}
+use Rattle.kinds.specs.Kinds.{withClient, extensionKind, kindOf, afterNumber, readKind}
 use Rattle.kinds.specs.declared.Version.{Version}
 use Rattle.kinds.specs.declared.Version.the-variants.{V1, V2}
 use Rattle.kinds.specs.declared.Kind.{Kind}
@@ -75,7 +75,7 @@ client-at : {w : List ℕ} {zs : List ℤ} {at : ℕ} (kind : ℤ → Kind) → 
 client-at kind s (ints.Got c next r) e = begun (run-append s (one r e none))
 client-at kind s ints.RunsOut e = tt
 
-extension-at : (v : Version) {w : List ℕ} {zs : List ℤ} {at : ℕ} → Run w 0 zs at → KindAt w (extension v at)
+extension-at : (v : Version) {w : List ℕ} {zs : List ℤ} {at : ℕ} → Run w 0 zs at → KindAt w (extensionKind v at)
 extension-at V1 s = tt
 extension-at V2 s = begun s
 

@@ -13,7 +13,7 @@ use borrow.Author.Tests.{ne-eqb, lt-ltb}
 use mir.Syntax.{w32}
 use mir.Val.{SFits}
 use Rattle.num.specs.Wrap.{wrap32}
-use Rattle.state.specs.State.{same, present, xOf, yOf, withPlayer, withInput}
+use Rattle.state.specs.State.{sameInt, present, xOf, yOf, withPlayer, withInput}
 use Rattle.state.specs.Reading.{Event, playerNew, playerChange, playerOld}
 use Rattle.state.specs.Laws.{Sizes}
 use Rattle.state.specs.declared.Entries.{Entries}
@@ -22,14 +22,14 @@ use Rattle.demand.specs.Demand.{
   News,
   nothing,
   came,
-  changed,
+  shifted,
   left,
   newsOf,
   about,
   presentAfter,
   isPresent,
   startAfter,
-  start,
+  startOf,
   difference,
   sumAfter,
   differences,
@@ -64,7 +64,7 @@ told-input e c m ns h t =
 -- an event of no player
 pub told-other : (e : Entries) (s : Seen) (h : List Seen) → ((c : ℤ) → about c s ≡ nothing)
     → isNew (newsOf (s .event)) ≡ 0 → isOld (newsOf (s .event)) ≡ 0 → Told e h → Told e (s ∷ h)
-unfolding count isPresent start differences
+unfolding count isPresent startOf differences
 told-other e s h n a b t =
     record {
       number = omega (arith, t .number);
@@ -74,7 +74,7 @@ told-other e s h n a b t =
 
 -- an event of client k, which leaves the mark m at x, y
 module _ (e : Entries) (z : Sizes e) (k : ℕ) (hk : k < 128) (h : List Seen) (t : Told e h) (s : Seen) (n : News)
-    (shape : (c : ℤ) → about c s ≡ cond (same c (pos k)) n nothing) (m : ℕ) (x y : ℤ) where
+    (shape : (c : ℤ) → about c s ≡ cond (sameInt c (pos k)) n nothing) (m : ℕ) (x y : ℤ) where
   own : about (pos k) s ≡ n
   own = shape (pos k) ∙ rw (same-refl (pos k))
 
@@ -88,20 +88,20 @@ module _ (e : Entries) (z : Sizes e) (k : ℕ) (hk : k < 128) (h : List Seen) (t
 
   stands : (c : ℕ)
       → (presentAfter n (isPresent (pos k) h) ≡ true
-      → _≡_ {A = ℤ × ℤ} (x, y) (at (startAfter n (start (pos k) h)) (sumAfter n (difference (take (s .used) (s .window))) (differences (pos k) h))))
+      → _≡_ {A = ℤ × ℤ} (x, y) (at (startAfter n (startOf (pos k) h)) (sumAfter n (difference (take (s .used) (s .window))) (differences (pos k) h))))
       → Dec (c ≡ k) → isPresent (pos c) (s ∷ h) ≡ true
-      → positionOn (withPlayer e k m x y) (pos c) ≡ at (start (pos c) (s ∷ h)) (differences (pos c) (s ∷ h))
-  unfolding isPresent start differences
+      → positionOn (withPlayer e k m x y) (pos c) ≡ at (startOf (pos c) (s ∷ h)) (differences (pos c) (s ∷ h))
+  unfolding isPresent startOf differences
   stands c q (yes i) = rw (i, own, x-set e z k hk x, y-set e z k hk y) q
   stands c q (no i) =
       rw (others c i, getD-set-other (e .xs) k c x (pos 0) i, getD-set-other (e .ys) k c y (pos 0) i) (t .position (pos c))
 
   told-player : eqb m 1 ≡ presentAfter n (isPresent (pos k) h)
       → (presentAfter n (isPresent (pos k) h) ≡ true
-      → _≡_ {A = ℤ × ℤ} (x, y) (at (startAfter n (start (pos k) h)) (sumAfter n (difference (take (s .used) (s .window))) (differences (pos k) h))))
+      → _≡_ {A = ℤ × ℤ} (x, y) (at (startAfter n (startOf (pos k) h)) (sumAfter n (difference (take (s .used) (s .window))) (differences (pos k) h))))
       → players (set (e .marks) k m) + count isOld (s ∷ h) ≡ count isNew (s ∷ h)
       → Told (withPlayer e k m x y) (s ∷ h)
-  unfolding isPresent start differences
+  unfolding isPresent startOf differences
   told-player p q r =
       record {
         number = r;
@@ -148,11 +148,11 @@ module _ (e : Entries) (z : Sizes e) (k : ℕ) (hk : k < 128) (h : List Seen) (t
   unfolding count
   told-change dx dy a d x y ex ey =
       let p = t .position (pos k) (was a) in
-      told-player e z k hk h t (seen pending w n (playerChange (pos k) x y (xOf e k) (yOf e k)) ten former) (changed (pos k)) (λ c. refl) 1 x y
+      told-player e z k hk h t (seen pending w n (playerChange (pos k) x y (xOf e k) (yOf e k)) ten former) (shifted (pos k)) (λ c. refl) 1 x y
       (sym (was a))
       (λ q.
       rw d
       (pair
-      (ex ∙ grown (start (pos k) h .0) (differences (pos k) h .0) dx (xOf e k) (ap (λ (v : ℤ × ℤ). v .0) p))
-      (ey ∙ grown (start (pos k) h .1) (differences (pos k) h .1) dy (yOf e k) (ap (λ (v : ℤ × ℤ). v .1) p))))
+      (ex ∙ grown (startOf (pos k) h .0) (differences (pos k) h .0) dx (xOf e k) (ap (λ (v : ℤ × ℤ). v .0) p))
+      (ey ∙ grown (startOf (pos k) h .1) (differences (pos k) h .1) dy (yOf e k) (ap (λ (v : ℤ × ℤ). v .1) p))))
       (let l = rw a at (players-set (e .marks) k 1 (omega (arith, z .marks))) in omega (arith, t .number))

@@ -8,7 +8,7 @@ use native.Mathlib.Decide.{ℕ-discrete}
 use lib.Dec.{eqb}
 use lib.IntN.{ℤ, pos, negsuc}
 use borrow.Author.Tests.{eq-eqb, eqb-true}
-use Rattle.state.specs.State.{same, every, goodEntry}
+use Rattle.state.specs.State.{sameInt, every, goodEntry}
 use Rattle.back.specs.Back.{sameAll}
 
 pub and-true : (a b : Bool) → a && b ≡ true → (a ≡ true) × (b ≡ true)
@@ -24,11 +24,11 @@ or-false false b e = (refl, e)
 
 -- ---- the same number
 
-pub same-refl : (z : ℤ) → same z z ≡ true
+pub same-refl : (z : ℤ) → sameInt z z ≡ true
 same-refl (pos n) = eq-eqb n n refl
 same-refl (negsuc n) = eq-eqb n n refl
 
-pub same-true : (a b : ℤ) → same a b ≡ true → a ≡ b
+pub same-true : (a b : ℤ) → sameInt a b ≡ true → a ≡ b
 same-true (pos a) (pos b) e = ap pos (eqb-true a b e)
 same-true (pos a) (negsuc b) e = absurd (false≢true e)
 same-true (negsuc a) (pos b) e = absurd (false≢true e)
@@ -37,7 +37,7 @@ same-true (negsuc a) (negsuc b) e = ap negsuc (eqb-true a b e)
 pub same-all-refl : (l : List ℤ) → sameAll l l ≡ true
 unfolding sameAll
 same-all-refl [] = refl
-same-all-refl (a ∷ l) = and-both (same a a) (sameAll l l) (same-refl a) (same-all-refl l)
+same-all-refl (a ∷ l) = and-both (sameInt a a) (sameAll l l) (same-refl a) (same-all-refl l)
 
 -- ---- a test of every number below n
 

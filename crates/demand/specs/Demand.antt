@@ -12,7 +12,7 @@ use Rattle.varint.specs.declared.IntRead.{IntRead}
 use Rattle.varint.specs.declared.IntRead.the-variants.{Got, RunsOut}
 use Rattle.item.specs.Said.{Said, gives, more, finish, refuses}
 use Rattle.kinds.specs.declared.Version.{Version}
-use Rattle.state.specs.State.{same, present, xOf, yOf, emptyReader}
+use Rattle.state.specs.State.{sameInt, present, xOf, yOf, emptyReader}
 use Rattle.state.specs.Reading.{
   Event,
   tickStart,
@@ -57,14 +57,14 @@ backOver a (s ∷ l) = backOver (backOne a s) l
 pub data News : Type 0 where
   nothing : News
   came : ℤ → ℤ → ℤ → News
-  changed : ℤ → News
+  shifted : ℤ → News
   left : ℤ → News
 
 abbrev pub newsOf : Event → News
 newsOf (tickStart t) = nothing
 newsOf (tickEnd t) = nothing
 newsOf (playerNew c x y) = came c x y
-newsOf (playerChange c x y old-x old-y) = changed c
+newsOf (playerChange c x y old-x old-y) = shifted c
 newsOf (playerOld c x y) = left c
 newsOf (input c had) = nothing
 newsOf (other r) = nothing
@@ -72,9 +72,9 @@ newsOf (other r) = nothing
 -- one client's
 abbrev pub only : ℤ → News → News
 only c nothing = nothing
-only c (came d x y) = cond (same c d) (came d x y) nothing
-only c (changed d) = cond (same c d) (changed d) nothing
-only c (left d) = cond (same c d) (left d) nothing
+only c (came d x y) = cond (sameInt c d) (came d x y) nothing
+only c (shifted d) = cond (sameInt c d) (shifted d) nothing
+only c (left d) = cond (sameInt c d) (left d) nothing
 
 abbrev pub about : ℤ → Seen → News
 about c s = only c (newsOf (s .event))
@@ -83,7 +83,7 @@ about c s = only c (newsOf (s .event))
 abbrev pub presentAfter : News → Bool → Bool
 presentAfter nothing before = before
 presentAfter (came d x y) before = true
-presentAfter (changed d) before = before
+presentAfter (shifted d) before = before
 presentAfter (left d) before = false
 
 unfoldable pub isPresent : ℤ → List Seen → Bool
@@ -94,21 +94,21 @@ isPresent c (s ∷ l) = presentAfter (about c s) (isPresent c l)
 abbrev pub startAfter : News → ℤ × ℤ → ℤ × ℤ
 startAfter nothing before = before
 startAfter (came d x y) before = (x, y)
-startAfter (changed d) before = before
+startAfter (shifted d) before = before
 startAfter (left d) before = before
 
-unfoldable pub start : ℤ → List Seen → ℤ × ℤ
-start c [] = (pos 0, pos 0)
-start c (s ∷ l) = startAfter (about c s) (start c l)
+unfoldable pub startOf : ℤ → List Seen → ℤ × ℤ
+startOf c [] = (pos 0, pos 0)
+startOf c (s ∷ l) = startAfter (about c s) (startOf c l)
 
 -- dx, dy of a PlayerChange: the last two integers in the bytes used
-abbrev pub withRest : IntRead → (ℕ → List ℤ) → List ℤ
-withRest (Got z n remark) k = z ∷ k n
-withRest RunsOut k = []
+abbrev pub integerThen : IntRead → (ℕ → List ℤ) → List ℤ
+integerThen (Got z n remark) k = z ∷ k n
+integerThen RunsOut k = []
 
 unfoldable pub integers : ℕ → List ℕ → ℕ → List ℤ
 integers zero s at = []
-integers (suc n) s at = withRest (readInt s at) (integers n s)
+integers (suc n) s at = integerThen (readInt s at) (integers n s)
 
 unfoldable pub lastTwo : List ℤ → ℤ × ℤ
 lastTwo [] = (pos 0, pos 0)
@@ -123,7 +123,7 @@ difference s = lastTwo (integers (length s) s 0)
 abbrev pub sumAfter : News → ℤ × ℤ → ℤ × ℤ → ℤ × ℤ
 sumAfter nothing by before = before
 sumAfter (came d x y) by before = (pos 0, pos 0)
-sumAfter (changed d) by before = (before .0 +ℤ by .0, before .1 +ℤ by .1)
+sumAfter (shifted d) by before = (before .0 +ℤ by .0, before .1 +ℤ by .1)
 sumAfter (left d) by before = before
 
 unfoldable pub differences : ℤ → List Seen → ℤ × ℤ
@@ -135,13 +135,13 @@ differences c (s ∷ l) = sumAfter (about c s) (difference (take (s .used) (s .w
 abbrev pub isNew : News → ℕ
 isNew nothing = 0
 isNew (came d x y) = 1
-isNew (changed d) = 0
+isNew (shifted d) = 0
 isNew (left d) = 0
 
 abbrev pub isOld : News → ℕ
 isOld nothing = 0
 isOld (came d x y) = 0
-isOld (changed d) = 0
+isOld (shifted d) = 0
 isOld (left d) = 1
 
 unfoldable pub count : (News → ℕ) → List Seen → ℕ
@@ -171,7 +171,7 @@ pub record Told (e : Entries) (soFar : List Seen) : Type 0 where
   pub presence : (c : ℤ) → presentOn e c ≡ isPresent c soFar
   pub position : (c : ℤ) → isPresent c soFar ≡ true
       → positionOn e c
-      ≡ (wrap32 (start c soFar .0 +ℤ differences c soFar .0), wrap32 (start c soFar .1 +ℤ differences c soFar .1))
+      ≡ (wrap32 (startOf c soFar .0 +ℤ differences c soFar .0), wrap32 (startOf c soFar .1 +ℤ differences c soFar .1))
 
 -- calls cut in two, with no refusal 13 among them: stepping back over the events of the second part never refuses and gives exactly the
 -- board before it; and the events so far tell of the board after it

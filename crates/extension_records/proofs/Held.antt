@@ -3,7 +3,7 @@ use mathlib.Core.Path.{_≡_}
 use mir.Syntax.{w32}
 use mir.Val.{SFits, toZ, ofZ}
 use mir.Facts.{toZ-ofZ}
-use Rattle.shapes.specs.Shapes.{fieldsWith}
+use Rattle.shapes.specs.steps.Shapes.{fieldsWith}
 use Rattle.shapes.specs.declared.Fields.{Fields}
 
 abbrev pub held : Fields → Fields

@@ -5,7 +5,7 @@ use mathlib.Core.List.{List}
 use lib.ListN.{take}
 use Rattle.packer.specs.declared.Part.{Part}
 use Rattle.fields.specs.Fields.{Value, Reading, got, runsOut, readFields}
-use Rattle.shapes.specs.Shapes.{fieldsIn, viewed}
+use Rattle.shapes.specs.steps.Shapes.{fieldsIn, viewed}
 use Rattle.shapes.specs.declared.Shape.{Shape}
 use Rattle.shapes.specs.declared.FieldsRead.{FieldsRead}
 use Rattle.shapes.specs.declared.FieldsRead.the-variants as read
@@ -13,7 +13,7 @@ use Rattle.extensions.specs.Extensions.{Payload, shaped}
 use Rattle.extensions.specs.declared.Extension.{Extension}
 use Rattle.item.specs.Records.{Content, asContent, upTo, ofPayload}
 use Rattle.item.specs.declared.Tag.the-variants.{Named}
-use Rattle.extension_records.specs.Views.{exContent}
+use Rattle.extension_records.specs.steps.Views.{exContent}
 
 -- the answer to a reading of the fields in the data, which ends at next
 abbrev pub ofShape : Extension → Payload → ℕ → FieldsRead → Reading (Content Part)

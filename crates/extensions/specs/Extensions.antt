@@ -3,7 +3,7 @@ use Prim.Native.Nat.{ℕ}
 use mathlib.Core.Bool.{Bool, true, false, cond}
 use mathlib.Core.List.{List, [], _∷_}
 use Rattle.fields.specs.Fields.{Field, int, str, uuid}
-use Rattle.kinds.specs.Magic.{same}
+use Rattle.kinds.specs.Magic.{sameBytes}
 use Rattle.extensions.specs.declared.Extension.{Extension}
 use Rattle.extensions.specs.declared.Extension.the-variants.{
   Antibot,
@@ -33,7 +33,7 @@ use Rattle.extensions.specs.declared.Found.the-variants.{Known, Unknown}
 -- what an extension's data holds: fields, with spare bytes behind them; all of it is one part
 pub data Payload : Type 0 where
   shaped : List Field → Payload
-  whole : Payload
+  allData : Payload
 
 -- an identifier, its data, and whether its first number is the record's client (rule 5)
 pub record ExRow : Type 0 where
@@ -45,7 +45,7 @@ abbrev row : List ℕ → Payload → Bool → ExRow
 row i p c = record { id = i; payload = p; client = c }
 
 unfoldable pub extensionRow : Extension → ExRow
-extensionRow Antibot = row (0x86 ∷ 0x6b ∷ 0xfd ∷ 0xac ∷ 0xfb ∷ 0x49 ∷ 0x3c ∷ 0x0b ∷ 0xa8 ∷ 0x87 ∷ 0x5f ∷ 0xe1 ∷ 0xf3 ∷ 0xea ∷ 0x00 ∷ 0xb8 ∷ []) whole false
+extensionRow Antibot = row (0x86 ∷ 0x6b ∷ 0xfd ∷ 0xac ∷ 0xfb ∷ 0x49 ∷ 0x3c ∷ 0x0b ∷ 0xa8 ∷ 0x87 ∷ 0x5f ∷ 0xe1 ∷ 0xf3 ∷ 0xea ∷ 0x00 ∷ 0xb8 ∷ []) allData false
 extensionRow AuthInit = row (0x60 ∷ 0xda ∷ 0xba ∷ 0x5c ∷ 0x52 ∷ 0xc4 ∷ 0x3a ∷ 0xeb ∷ 0xb8 ∷ 0xba ∷ 0xb2 ∷ 0x95 ∷ 0x3f ∷ 0xb5 ∷ 0x5a ∷ 0x17 ∷ []) (shaped (int ∷ int ∷ str ∷ [])) true
 extensionRow AuthLogin = row (0x37 ∷ 0xec ∷ 0xd3 ∷ 0xb8 ∷ 0x92 ∷ 0x18 ∷ 0x3b ∷ 0xb9 ∷ 0xa7 ∷ 0x1b ∷ 0xa9 ∷ 0x35 ∷ 0xb8 ∷ 0x6f ∷ 0x6a ∷ 0x81 ∷ []) (shaped (int ∷ int ∷ str ∷ [])) true
 extensionRow AuthLogout = row (0xd4 ∷ 0xf5 ∷ 0xab ∷ 0xe8 ∷ 0xed ∷ 0xd2 ∷ 0x3f ∷ 0xb9 ∷ 0xab ∷ 0xd8 ∷ 0x1c ∷ 0x8b ∷ 0xb8 ∷ 0x4f ∷ 0x4a ∷ 0x63 ∷ []) (shaped (int ∷ [])) true
@@ -103,7 +103,7 @@ all =
 -- the extension among some that an identifier names
 unfoldable pub findIn : List Extension → List ℕ → Found
 findIn [] id = Unknown
-findIn (e ∷ es) id = cond (same id (idAt e)) (Known e) (findIn es id)
+findIn (e ∷ es) id = cond (sameBytes id (idAt e)) (Known e) (findIn es id)
 
 unfoldable pub find : List ℕ → Found
 find id = findIn all id

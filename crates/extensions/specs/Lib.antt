@@ -1,2 +1,2 @@
 pub mod Extensions
-pub mod Layouts
+pub mod steps

@@ -2,7 +2,7 @@
 ghost use mathlib.Core.Path.{_≡_};
 ghost use lib.ListN.{getD};
 ghost use Rattle.extensions.specs.Extensions.{all, payloadAt, hasClient};
-ghost use Rattle.extensions.specs.Layouts.{payloadIs, rowWith, RowOf};
+ghost use Rattle.extensions.specs.steps.Layouts.{payloadIs, rowWith, RowOf};
 ghost use Rattle.extensions.specs.declared.Extension.the-variants.{TeamSaveSuccess};
 use shapes::Shape;
 

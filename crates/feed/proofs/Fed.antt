@@ -24,7 +24,7 @@ use lib.Seq.{
 }
 use Rattle.num.proofs.Cases.{by-bool}
 use Rattle.feed.specs.Feed.{unread, kept, passed, grown}
-use Rattle.feed.specs.Clamped.{clamped}
+use Rattle.feed.specs.steps.Clamped.{clamped}
 use Rattle.feed.specs.Laws.{Passes, Grows}
 use Rattle.feed.specs.declared.Hand.{Hand}
 

@@ -1,3 +1,3 @@
 pub mod Feed
-pub mod Clamped
 pub mod Laws
+pub mod steps

@@ -4,7 +4,7 @@ ghost use Prim.Native.Nat.{_-_, _≤_, min};
 ghost use lib.ListN.{length};
 ghost use lib.Seq.{slice};
 ghost use Rattle.feed.specs.Feed.{emptyHand, unread, kept, passed, grown};
-ghost use Rattle.feed.specs.Clamped.{clamped};
+ghost use Rattle.feed.specs.steps.Clamped.{clamped};
 
 // The bytes of a buffer from a place to an end, and whether the input has ended, so that no more come behind them.
 pub struct Hand {

@@ -17,7 +17,7 @@ use Rattle.packer.specs.declared.Part.{Part}
 use Rattle.packer.specs.declared.PartRead.the-variants as parts
 use Rattle.fields.specs.Fields.{args, Reading, got, runsOut, refused, oneArg, argsFrom, asStrings, readField}
 use Rattle.fields.specs.Views.{noPart, argsWith}
-use Rattle.fields.specs.Reads.{readArgs, argsRead, fieldParts}
+use Rattle.fields.specs.steps.Reads.{readArgs, argsRead, fieldParts}
 use Rattle.fields.specs.declared.Args.{Args}
 use Rattle.fields.specs.declared.ArgsAnswer.{ArgsAnswer}
 use Rattle.fields.specs.declared.ArgsAnswer.the-variants as code

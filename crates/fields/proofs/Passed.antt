@@ -15,7 +15,7 @@ use Rattle.packer.specs.Parts.{part, readString, stringFrom}
 use Rattle.packer.specs.declared.Part.{Part}
 use Rattle.packer.specs.declared.PartRead.the-variants as parts
 use Rattle.fields.specs.Fields.{Reading, oneArg, argsFrom}
-use Rattle.fields.specs.Reads.{argsRead}
+use Rattle.fields.specs.steps.Reads.{argsRead}
 use Rattle.fields.specs.declared.ArgsAnswer.{ArgsAnswer}
 use Rattle.fields.specs.declared.ArgsAnswer.the-variants.{Got, RunsOut, Refused}
 

@@ -62,12 +62,12 @@ abbrev pub intField : IntRead → Reading (Value Part)
 intField (ints.Got z next remark) = got (num z) next
 intField ints.RunsOut = runsOut
 
-abbrev pub dtOf : ℤ → ℕ → Reading (Value Part)
-dtOf (pos n) next = got (num (pos n)) next
-dtOf (negsuc n) next = refused NegativeDt
+abbrev pub dtFrom : ℤ → ℕ → Reading (Value Part)
+dtFrom (pos n) next = got (num (pos n)) next
+dtFrom (negsuc n) next = refused NegativeDt
 
 abbrev pub dtField : IntRead → Reading (Value Part)
-dtField (ints.Got z next remark) = dtOf z next
+dtField (ints.Got z next remark) = dtFrom z next
 dtField ints.RunsOut = runsOut
 
 abbrev pub maskField : IntRead → Reading (Value Part)

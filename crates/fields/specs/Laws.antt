@@ -11,15 +11,15 @@ use Rattle.fields.specs.Remarks.{remarks}
 use Rattle.fields.specs.Writing.{AllSorted, allWritable, writeFields}
 
 -- written and read again: the same meaning, exactly the written bytes used, no remark, whatever stands before and after
-abbrev pub WrittenReads : Type 0
-WrittenReads =
+abbrev pub FieldsWrittenReads : Type 0
+FieldsWrittenReads =
     (fs : List Field) (ms : List (Value (List ℕ))) → AllSorted fs ms → allWritable fs ms ≡ true → (s rest : List ℕ) (at : ℕ)
     → at ≤ length s → drop at s ≡ writeFields fs ms ++ rest
     → (means s (readFields fs s at) ≡ got ms (at + length (writeFields fs ms))) × (remarks fs s at ≡ 0)
 
 -- read without a remark: the bytes used are the written form of the meaning
-abbrev pub ReadsWritten : Type 0
-ReadsWritten =
+abbrev pub FieldsReadsWritten : Type 0
+FieldsReadsWritten =
     (fs : List Field) (s : List ℕ) (at next : ℕ) (vs : List (Value Part)) → at ≤ length s → Bytes s
     → readFields fs s at ≡ got vs next → remarks fs s at ≡ 0 → drop at s ≡ writeFields fs (map (mean s) vs) ++ drop next s
 

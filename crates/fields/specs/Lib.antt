@@ -2,5 +2,5 @@ pub mod Fields
 pub mod Remarks
 pub mod Writing
 pub mod Views
-pub mod Reads
 pub mod Laws
+pub mod steps

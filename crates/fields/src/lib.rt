@@ -3,7 +3,7 @@ ghost use mathlib.Core.Path.{_≡_};
 ghost use mathlib.Core.List.{[]};
 ghost use Rattle.fields.specs.Fields.{args, readField, readFields, argsFrom};
 ghost use Rattle.fields.specs.Views.{zeros, tenFields, inputFields};
-ghost use Rattle.fields.specs.Reads.{readArgs, argsRead, fieldParts, inputWith, inputRead, tenRead};
+ghost use Rattle.fields.specs.steps.Reads.{readArgs, argsRead, fieldParts, inputWith, inputRead, tenRead};
 use packer::Part;
 use packer::PartRead;
 use refusal::Refusal;

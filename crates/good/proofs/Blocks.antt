@@ -11,7 +11,7 @@ use lib.IntN.{ℤ}
 use borrow.Author.Tests.{eqb-true}
 use Rattle.state.specs.State.{every, goodEntry, zeroAt, tenZeros, goodInput}
 use Rattle.state.proofs.Every.{left-of, right-of, every-same}
-use Rattle.good.specs.Blocks.{from, noMark}
+use Rattle.good.specs.steps.Blocks.{from, noMark}
 
 and-assoc : (a b c : Bool) → ((a && b) && c) ≡ (a && (b && c))
 and-assoc true b c = refl

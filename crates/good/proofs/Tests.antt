@@ -11,14 +11,14 @@ use borrow.Author.Tests.{eq-eqb, ne-eqb}
 use mir.Syntax.{w32}
 use mir.Val.{SFits, ofZ}
 use Rattle.num.proofs.Cases.{by-eq}
-use Rattle.state.specs.State.{same}
+use Rattle.state.specs.State.{sameInt}
 
 pub one-or : (a b : Bool) → (a || b) ≡ cond a true b
 one-or true b = refl
 one-or false b = refl
 
 -- the test of two numbers compares their bits
-pub same-bits : (a b : ℤ) → SFits w32 a → SFits w32 b → eqb (ofZ w32 a) (ofZ w32 b) ≡ same a b
+pub same-bits : (a b : ℤ) → SFits w32 a → SFits w32 b → eqb (ofZ w32 a) (ofZ w32 b) ≡ sameInt a b
 same-bits (pos m) (pos n) f g = refl
 same-bits (pos m) (negsuc n) f g = ne-eqb m (4294967296 - suc n) (λ h. omega (arith, f .sfits, g .sfits))
 same-bits (negsuc m) (pos n) f g = ne-eqb (4294967296 - suc m) n (λ h. omega (arith, f .sfits, g .sfits))

@@ -5,7 +5,7 @@ ghost use Prim.Native.Nat.{_+_, _*_, _<_, _≤_};
 ghost use lib.IntN.{pos};
 ghost use lib.Signed.{leZ};
 ghost use Rattle.state.specs.State.{
-  same,
+  sameInt,
   entriesWith,
   every,
   zeroAt,
@@ -21,7 +21,7 @@ ghost use Rattle.state.specs.State.{
   readerWith,
   goodReader,
 };
-ghost use Rattle.good.specs.Blocks.{from, noMark};
+ghost use Rattle.good.specs.steps.Blocks.{from, noMark};
 use kinds::Kind;
 use kinds::Version;
 use state::Entries;
@@ -29,7 +29,7 @@ use state::Pending;
 use state::Scalars;
 
 fn is_zero(x: i32) -> bool
-    ensures { λ r. ⌜ r ≡ same x (pos 0) ⌝ }
+    ensures { λ r. ⌜ r ≡ sameInt x (pos 0) ⌝ }
 {
     x == 0
 }

@@ -9,8 +9,8 @@ use lib.ListN.{length, take, drop, getD, length-drop, take-append-drop}
 use lib.Seq.{take-add, take-take, drop-drop, drop-at, length-take-le}
 use borrow.Author.Tests.{ltb-true, eqb-true, eqb-false}
 use Rattle.num.proofs.Cases.{by-bool}
-use Rattle.kinds.specs.Magic.{same}
-use Rattle.ids.specs.Table.{number, AllBytes, Sixteen}
+use Rattle.kinds.specs.Magic.{sameBytes}
+use Rattle.ids.specs.steps.Table.{bigEndian, AllBytes, Sixteen}
 use Rattle.ids.proofs.Same.{front, same-refl, same-true}
 use Rattle.ids.proofs.Below.{below, at}
 
@@ -30,12 +30,12 @@ bytes-part : (s : List ℕ) → ((i : ℕ) → getD s i 0 < 256) → (n a : ℕ)
 bytes-part s g zero a h = tt
 bytes-part s g (suc n) a h = rw (front s a n (omega arith)) (g a, bytes-part s g n (a + 1) (omega arith))
 
-number-append : (n : ℕ) (xs ys : List ℕ) → number n (xs ++ ys) ≡ number (number n xs) ys
+number-append : (n : ℕ) (xs ys : List ℕ) → bigEndian n (xs ++ ys) ≡ bigEndian (bigEndian n xs) ys
 number-append n [] ys = refl
 number-append n (x ∷ xs) ys = number-append (n * 256 + x) xs ys
 
 -- as many bytes with the same number are the same
-number-same : (n m : ℕ) (xs ys : List ℕ) → length xs ≡ length ys → AllBytes xs → AllBytes ys → number n xs ≡ number m ys
+number-same : (n m : ℕ) (xs ys : List ℕ) → length xs ≡ length ys → AllBytes xs → AllBytes ys → bigEndian n xs ≡ bigEndian m ys
     → (n ≡ m) × (xs ≡ ys)
 number-same n m [] [] l a b e = (e, refl)
 number-same n m [] (y ∷ ys) l a b e = absurd (omega arith)
@@ -59,7 +59,7 @@ module _ (s : List ℕ) (a : ℕ) where
   halved n = rw (take-add n n (drop a s), drop-drop n a s)
 
 pub eight : (s : List ℕ) (a : ℕ) → a + 8 ≤ length s
-    → number 0 (take 4 (drop a s)) * 4294967296 + number 0 (take 4 (drop (a + 4) s)) ≡ number 0 (take 8 (drop a s))
+    → bigEndian 0 (take 4 (drop a s)) * 4294967296 + bigEndian 0 (take 4 (drop (a + 4) s)) ≡ bigEndian 0 (take 8 (drop a s))
 eight s a h =
     rw (halved s a 4, number-append 0 (take 4 (drop a s)) (take 4 (drop (a + 4) s)), four s (a + 4) (omega arith)) (omega arith)
 
@@ -67,8 +67,8 @@ eight s a h =
 
 abbrev isByte : List ℕ → ℕ → Bool
 isByte xs j =
-    eqb (number 0 (take 8 xs) / 256 ^ (7 - j) % 256) (getD xs j 0)
-    && eqb (number 0 (drop 8 xs) / 256 ^ (7 - j) % 256) (getD xs (8 + j) 0)
+    eqb (bigEndian 0 (take 8 xs) / 256 ^ (7 - j) % 256) (getD xs j 0)
+    && eqb (bigEndian 0 (drop 8 xs) / 256 ^ (7 - j) % 256) (getD xs (8 + j) 0)
 
 abbrev every : List ℕ → Bool
 every [] = true
@@ -89,18 +89,18 @@ sixteen xs h =
     record { bytes = all-bytes xs (b .0); size = eqb-true (length xs) 16 (b .1) }
 
 module _ (xs : List ℕ) (h : isId xs ≡ true) (j : ℕ) (l : j < 8) where
-  both : (number 0 (take 8 xs) / 256 ^ (7 - j) % 256 ≡ getD xs j 0) × (number 0 (drop 8 xs) / 256 ^ (7 - j) % 256 ≡ getD xs (8 + j) 0)
+  both : (bigEndian 0 (take 8 xs) / 256 ^ (7 - j) % 256 ≡ getD xs j 0) × (bigEndian 0 (drop 8 xs) / 256 ^ (7 - j) % 256 ≡ getD xs (8 + j) 0)
   both =
-      let f = number 0 (take 8 xs) / 256 ^ (7 - j) % 256 in
-      let s = number 0 (drop 8 xs) / 256 ^ (7 - j) % 256 in
+      let f = bigEndian 0 (take 8 xs) / 256 ^ (7 - j) % 256 in
+      let s = bigEndian 0 (drop 8 xs) / 256 ^ (7 - j) % 256 in
       let all = and-eq-true-iff (every xs && eqb (length xs) 16) (below (isByte xs) 8) .0 h .1 in
       let b = and-eq-true-iff (eqb f (getD xs j 0)) (eqb s (getD xs (8 + j) 0)) .0 (at (isByte xs) 8 j l all) in
       (eqb-true f (getD xs j 0) (b .0), eqb-true s (getD xs (8 + j) 0) (b .1))
 
-  pub first-byte : number 0 (take 8 xs) / 256 ^ (7 - j) % 256 ≡ getD xs j 0
+  pub first-byte : bigEndian 0 (take 8 xs) / 256 ^ (7 - j) % 256 ≡ getD xs j 0
   first-byte = both .0
 
-  pub second-byte : number 0 (drop 8 xs) / 256 ^ (7 - j) % 256 ≡ getD xs (8 + j) 0
+  pub second-byte : bigEndian 0 (drop 8 xs) / 256 ^ (7 - j) % 256 ≡ getD xs (8 + j) 0
   second-byte = both .1
 
 -- ---- comparing 16 bytes with others by the halves
@@ -120,8 +120,8 @@ module _ (s : List ℕ) (g : (i : ℕ) → getD s i 0 < 256) (a : ℕ) (room : a
   window-bytes : AllBytes window
   window-bytes = bytes-part s g 16 a room
 
-  halves-same : number 0 (take 8 (drop a s)) ≡ number 0 (take 8 xs) → number 0 (take 8 (drop (a + 8) s)) ≡ number 0 (drop 8 xs)
-      → same window xs ≡ true
+  halves-same : bigEndian 0 (take 8 (drop a s)) ≡ bigEndian 0 (take 8 xs) → bigEndian 0 (take 8 (drop (a + 8) s)) ≡ bigEndian 0 (drop 8 xs)
+      → sameBytes window xs ≡ true
   halves-same p q =
       let n : length window ≡ 16 = length-take-le 16 (drop a s) (omega (arith, length-drop a s)) in
       let m = six .size in
@@ -129,28 +129,28 @@ module _ (s : List ℕ) (g : (i : ℕ) → getD s i 0 < 256) (a : ℕ) (room : a
       let y : length (drop 8 window) ≡ length (drop 8 xs) = omega (arith, length-drop 8 window, length-drop 8 xs) in
       let front =
       number-same 0 0 (take 8 window) (take 8 xs) x (bytes-take 8 window window-bytes) (bytes-take 8 xs (six .bytes))
-      (ap (number 0) first-is ∙ p) .1 in
+      (ap (bigEndian 0) first-is ∙ p) .1 in
       let back =
       number-same 0 0 (drop 8 window) (drop 8 xs) y (bytes-drop 8 window window-bytes) (bytes-drop 8 xs (six .bytes))
-      (ap (number 0) second-is ∙ q) .1 in
+      (ap (bigEndian 0) second-is ∙ q) .1 in
       let e : window ≡ xs = sym (take-append-drop 8 window) ∙ rw (front, back) (take-append-drop 8 xs) in
       rw e (same-refl xs)
 
-  halves-of : same window xs ≡ true
-      → (number 0 (take 8 (drop a s)) ≡ number 0 (take 8 xs)) × (number 0 (take 8 (drop (a + 8) s)) ≡ number 0 (drop 8 xs))
+  halves-of : sameBytes window xs ≡ true
+      → (bigEndian 0 (take 8 (drop a s)) ≡ bigEndian 0 (take 8 xs)) × (bigEndian 0 (take 8 (drop (a + 8) s)) ≡ bigEndian 0 (drop 8 xs))
   halves-of t =
       let e = same-true window xs t in
-      (rw first-is at (ap (λ (l : List ℕ). number 0 (take 8 l)) e), rw second-is at (ap (λ (l : List ℕ). number 0 (drop 8 l)) e))
+      (rw first-is at (ap (λ (l : List ℕ). bigEndian 0 (take 8 l)) e), rw second-is at (ap (λ (l : List ℕ). bigEndian 0 (drop 8 l)) e))
 
-  pub first-differs : (number 0 (take 8 (drop a s)) ≡ number 0 (take 8 xs) → ⊥) → same window xs ≡ false
-  first-differs d = by-bool (same window xs) (λ t. absurd (d (halves-of t .0))) (λ t. t)
+  pub first-differs : (bigEndian 0 (take 8 (drop a s)) ≡ bigEndian 0 (take 8 xs) → ⊥) → sameBytes window xs ≡ false
+  first-differs d = by-bool (sameBytes window xs) (λ t. absurd (d (halves-of t .0))) (λ t. t)
 
-  second-differs : (number 0 (take 8 (drop (a + 8) s)) ≡ number 0 (drop 8 xs) → ⊥) → same window xs ≡ false
-  second-differs d = by-bool (same window xs) (λ t. absurd (d (halves-of t .1))) (λ t. t)
+  second-differs : (bigEndian 0 (take 8 (drop (a + 8) s)) ≡ bigEndian 0 (drop 8 xs) → ⊥) → sameBytes window xs ≡ false
+  second-differs d = by-bool (sameBytes window xs) (λ t. absurd (d (halves-of t .1))) (λ t. t)
 
   -- where the first halves are the same, the second ones decide
-  pub second-tells : number 0 (take 8 (drop a s)) ≡ number 0 (take 8 xs) → (x y : ℕ) → x ≡ number 0 (take 8 (drop (a + 8) s))
-      → y ≡ number 0 (drop 8 xs) → eqb x y ≡ same window xs
+  pub second-tells : bigEndian 0 (take 8 (drop a s)) ≡ bigEndian 0 (take 8 xs) → (x y : ℕ) → x ≡ bigEndian 0 (take 8 (drop (a + 8) s))
+      → y ≡ bigEndian 0 (drop 8 xs) → eqb x y ≡ sameBytes window xs
   second-tells p x y e f =
       by-bool (eqb x y)
       (λ t. t ∙ sym (halves-same p (sym e ∙ eqb-true x y t ∙ f)))

@@ -8,7 +8,7 @@ use native.Mathlib.Numerals.{add-one}
 use lib.ListN.{drop, getD}
 use lib.Seq.{drop-cons}
 use Rattle.num.proofs.Cases.{by-bool}
-use Rattle.kinds.specs.Magic.{same}
+use Rattle.kinds.specs.Magic.{sameBytes}
 use Rattle.extensions.specs.Extensions.{idAt, all, findIn, find}
 use Rattle.extensions.specs.declared.Extension.{Extension}
 use Rattle.extensions.specs.declared.Extension.the-variants.{TeamSaveSuccess}
@@ -17,7 +17,7 @@ use Rattle.extensions.specs.declared.Found.the-variants.{Known}
 use Rattle.extensions.proofs.Each.{length-all}
 use Rattle.ids.proofs.Same.{same-true}
 
-pub find-step : (id : List ℕ) (k : ℕ) → k < 20 → (e : Extension) → e ≡ getD all k TeamSaveSuccess → (t : Bool) → same id (idAt e) ≡ t
+pub find-step : (id : List ℕ) (k : ℕ) → k < 20 → (e : Extension) → e ≡ getD all k TeamSaveSuccess → (t : Bool) → sameBytes id (idAt e) ≡ t
     → findIn (drop k all) id ≡ cond t (Known e) (findIn (drop (k + 1) all) id)
 unfolding findIn
 find-step id k h e p t q = rw (drop-cons all k TeamSaveSuccess (omega (arith, length-all)), add-one, ← p, q)
@@ -29,7 +29,7 @@ found-in : (es : List Extension) (id : List ℕ) (e : Extension) → findIn es i
 unfolding findIn
 found-in [] id e h = let q : _≡_ {A = ℕ} 0 1 = cc in absurd (omega arith)
 found-in (x ∷ es) id e h =
-    by-bool (same id (idAt x))
+    by-bool (sameBytes id (idAt x))
     (λ t. let q : x ≡ e = known-is x e (rw t at h) in rw (← q) (sym (same-true id (idAt x) t)))
     (λ t. found-in es id e (rw t at h))
 

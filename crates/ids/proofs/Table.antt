@@ -4,12 +4,12 @@ use mathlib.Core.Path.{_≡_, refl}
 use mathlib.Core.Bool.{true}
 use mathlib.Core.List.{[]}
 use lib.ListN.{length}
-use Rattle.kinds.specs.Magic.{same, magic}
+use Rattle.kinds.specs.Magic.{sameBytes, magic}
 use Rattle.extensions.specs.Extensions.{extensionRow, idAt, all, findIn, find}
 use Rattle.extensions.specs.declared.Extension.{Extension}
 use Rattle.extensions.specs.declared.Found.the-variants.{Known, Unknown}
 use Rattle.extensions.proofs.Each.{each, tested}
-use Rattle.ids.specs.Table.{Sixteen}
+use Rattle.ids.specs.steps.Table.{Sixteen}
 use Rattle.ids.proofs.ByHalves.{isId, sixteen}
 
 pub id-passes : (e : Extension) → isId (idAt e) ≡ true
@@ -27,11 +27,11 @@ unfolding magic
 magic-sixteen = sixteen magic refl
 
 pub id-found : (e : Extension) → find (idAt e) ≡ Known e
-unfolding find findIn same idAt extensionRow all
+unfolding find findIn sameBytes idAt extensionRow all
 id-found =
     each (λ e. find (idAt e) ≡ Known e)
     (refl, (refl, (refl, (refl, (refl, (refl, (refl, (refl, (refl, (refl, (refl, (refl, (refl, (refl, (refl, (refl, (refl, (refl, (refl, (refl, tt))))))))))))))))))))
 
 pub none-found : find [] ≡ Unknown
-unfolding find findIn same idAt extensionRow all
+unfolding find findIn sameBytes idAt extensionRow all
 none-found = refl

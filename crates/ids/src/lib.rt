@@ -3,11 +3,11 @@ ghost use mathlib.Core.Path.{_≡_};
 ghost use Prim.Native.Nat.{_+_, _-_, _/_, _%_, _^_, _≤_, _<_};
 ghost use lib.ListN.{length, take, drop, getD};
 ghost use Rattle.packer.specs.Parts.{shown};
-ghost use Rattle.shapes.specs.Shapes.{idPart};
+ghost use Rattle.shapes.specs.steps.Shapes.{idPart};
 ghost use Rattle.kinds.specs.Magic.{magic, readMagic};
 ghost use Rattle.kinds.specs.Views.{magicIs};
 ghost use Rattle.extensions.specs.Extensions.{idAt, find};
-ghost use Rattle.ids.specs.Table.{number, halvesWith, halves, TellsSame};
+ghost use Rattle.ids.specs.steps.Table.{bigEndian, halvesWith, halves, TellsSame};
 use extensions::Extension;
 use extensions::Found;
 use kinds::MagicRead;
@@ -100,7 +100,7 @@ fn wide(b: u8) -> u64
 // Four bytes at a place, as a number.
 fn quad(s: &[u8], at: usize) -> u64
     requires { ⌜ at + 4 ≤ length (now s) ⌝ }
-    ensures { λ r. ⌜ (r ≡ number 0 (take 4 (drop at (now (s .entry))))) × (r < 4294967296) ⌝ }
+    ensures { λ r. ⌜ (r ≡ bigEndian 0 (take 4 (drop at (now (s .entry))))) × (r < 4294967296) ⌝ }
 {
     ((wide(s[at]) * 256 + wide(s[at + 1])) * 256 + wide(s[at + 2])) * 256 + wide(s[at + 3])
 }
@@ -108,7 +108,7 @@ fn quad(s: &[u8], at: usize) -> u64
 // Eight bytes at a place, as a number.
 fn word(s: &[u8], at: usize) -> u64
     requires { ⌜ at + 8 ≤ length (now s) ⌝ }
-    ensures { λ r. ⌜ r ≡ number 0 (take 8 (drop at (now (s .entry)))) ⌝ }
+    ensures { λ r. ⌜ r ≡ bigEndian 0 (take 8 (drop at (now (s .entry)))) ⌝ }
 {
     quad(s, at) * 4294967296 + quad(s, at + 4)
 }

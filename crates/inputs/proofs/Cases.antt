@@ -13,8 +13,8 @@ use mir.Val.{SFits, ofZ}
 use Rattle.refusal.specs.declared.Refusal.the-variants.{ClientTooLarge, InputDiffWithoutNew}
 use Rattle.item.specs.Said.{gives}
 use Rattle.state.specs.State.{Memory, holds, tenOf}
-use Rattle.state.specs.Reading.{input, step, refusal, sums, changed, inputDiff, inputNew}
-use Rattle.state.specs.Inside.{noEntry}
+use Rattle.state.specs.Reading.{input, stepOf, refusalStep, sums, changed, inputDiff, inputNew}
+use Rattle.state.specs.steps.Inside.{noEntry}
 use Rattle.state.specs.declared.Scalars.{Scalars}
 use Rattle.state.proofs.Numbers.{picks-first, picks-second, client-is}
 use Rattle.state.proofs.Marks.{here, away, far}
@@ -22,31 +22,31 @@ use Rattle.state.proofs.Marks.{here, away, far}
 -- ---- InputDiff
 
 pub diff-far : (s : Scalars) (m : Memory) (z : ℤ) (ds : List ℤ) (n b : ℕ) → SFits w32 z → b ≡ ofZ w32 z → 128 ≤ b
-    → refusal (noEntry b InputDiffWithoutNew) s m ≡ inputDiff s m z ds n
+    → refusalStep (noEntry b InputDiffWithoutNew) s m ≡ inputDiff s m z ds n
 unfolding inputDiff
 diff-far s m (pos c) ds n b f e h = rw (e, lt-ltb c 2147483648 (f .sfits)) (picks-second (holds (m .entries) c) _ _ (far (m .entries .held) c (omega arith)))
 diff-far s m (negsuc c) ds n b f e h = rw (le-ltb b 2147483648 (omega (arith, f .sfits)))
 
 module _ (s : Scalars) (m : Memory) (z : ℤ) (ds : List ℤ) (n b : ℕ) (f : SFits w32 z) (e : b ≡ ofZ w32 z) (h : b < 128) where
-  pub diff-away : (getD (m .entries .held) b 0 ≡ 1 → ⊥) → refusal InputDiffWithoutNew s m ≡ inputDiff s m z ds n
+  pub diff-away : (getD (m .entries .held) b 0 ≡ 1 → ⊥) → refusalStep InputDiffWithoutNew s m ≡ inputDiff s m z ds n
   unfolding inputDiff
   diff-away q = rw (client-is z b f e h) (picks-second (holds (m .entries) b) _ _ (away (m .entries .held) b h q))
 
   pub diff-here : getD (m .entries .held) b 0 ≡ 1
-      → step (gives (input z true) n) s (changed m b (sums (tenOf (m .entries .inputs) b) ds)) ≡ inputDiff s m z ds n
+      → stepOf (gives (input z true) n) s (changed m b (sums (tenOf (m .entries .inputs) b) ds)) ≡ inputDiff s m z ds n
   unfolding inputDiff
   diff-here q = rw (client-is z b f e h) (picks-first (holds (m .entries) b) _ _ (here (m .entries .held) b h q))
 
 -- ---- InputNew
 
 pub new-far : (s : Scalars) (m : Memory) (z : ℤ) (ns : List ℤ) (n b : ℕ) → SFits w32 z → b ≡ ofZ w32 z → 128 ≤ b
-    → refusal (noEntry b ClientTooLarge) s m ≡ inputNew s m z ns n
+    → refusalStep (noEntry b ClientTooLarge) s m ≡ inputNew s m z ns n
 unfolding inputNew
 new-far s m (pos c) ns n b f e h = rw (e, lt-ltb c 2147483648 (f .sfits)) (picks-second (ltb c 128) _ _ (le-ltb c 128 (omega arith)))
 new-far s m (negsuc c) ns n b f e h = rw (le-ltb b 2147483648 (omega (arith, f .sfits)))
 
 -- the event tells whether there was an input before, by the mark
 pub new-here : (s : Scalars) (m : Memory) (z : ℤ) (ns : List ℤ) (n b : ℕ) → SFits w32 z → b ≡ ofZ w32 z → b < 128
-    → step (gives (input z (eqb (getD (m .entries .held) b 0) 1)) n) s (changed m b ns) ≡ inputNew s m z ns n
+    → stepOf (gives (input z (eqb (getD (m .entries .held) b 0) 1)) n) s (changed m b ns) ≡ inputNew s m z ns n
 unfolding inputNew
 new-here s m z ns n b f e h = rw (client-is z b f e h, lt-ltb b 128 h)

@@ -6,7 +6,7 @@ ghost use lib.Dec.{ltb};
 ghost use Rattle.fields.specs.Views.{zeros};
 ghost use Rattle.state.specs.State.{Memory, tenOf, putTen};
 ghost use Rattle.state.specs.Reading.{sums, inputDiff, inputNew};
-ghost use Rattle.state.specs.Inside.{OnInputs};
+ghost use Rattle.state.specs.steps.Inside.{OnInputs};
 use refusal::Refusal;
 use state::Event;
 use state::Outcome;

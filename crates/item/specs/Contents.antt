@@ -7,9 +7,9 @@ use Rattle.packer.specs.declared.Part.{Part}
 use Rattle.fields.specs.Fields.{Field, uuid, blob, Value, num, bytes, strings}
 use Rattle.fields.specs.Views.{zeros, argsWith}
 use Rattle.fields.specs.declared.Args.{Args}
-use Rattle.shapes.specs.Shapes.{idPart}
+use Rattle.shapes.specs.steps.Shapes.{idPart}
 use Rattle.kinds.specs.Kinds.{Beside, nothing, ten, arguments, ofExtension, kindRow, kindNumber, kindCid}
-use Rattle.extensions.specs.Extensions.{Payload, shaped, whole, payloadAt, hasClient}
+use Rattle.extensions.specs.Extensions.{Payload, shaped, allData, payloadAt, hasClient}
 use Rattle.extensions.specs.declared.Extension.the-variants as extensions
 use Rattle.item.specs.Records.{Content, content, Rest, fields, extension, restOf}
 use Rattle.kinds.specs.declared.Kind.{Kind}
@@ -88,7 +88,7 @@ ownRest extension = []
 
 abbrev pub ownPayload : Payload → List Field
 ownPayload (shaped fs) = fs
-ownPayload whole = blob ∷ []
+ownPayload allData = blob ∷ []
 
 abbrev pub ownFields : Tag → List Field
 ownFields (Plain k) = ownRest (restOf k)

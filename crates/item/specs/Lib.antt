@@ -1,4 +1,4 @@
 pub mod Said
 pub mod Records
 pub mod Contents
-pub mod Taken
+pub mod steps

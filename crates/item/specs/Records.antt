@@ -31,7 +31,7 @@ use Rattle.kinds.specs.Kinds.{
   nowhere,
   isNumber,
   following,
-  first,
+  leading,
   Beside,
   nothing,
   ten,
@@ -39,7 +39,7 @@ use Rattle.kinds.specs.Kinds.{
   ofExtension,
   kindRow,
 }
-use Rattle.extensions.specs.Extensions.{Payload, shaped, whole, find, payloadAt}
+use Rattle.extensions.specs.Extensions.{Payload, shaped, allData, find, payloadAt}
 use Rattle.extensions.specs.declared.Extension.{Extension}
 use Rattle.extensions.specs.declared.Found.{Found}
 use Rattle.extensions.specs.declared.Found.the-variants.{Known, Unknown}
@@ -91,7 +91,7 @@ upTo end (refused r) = refused r
 -- an extension's data, the part p, which ends at next, is read by itself: a window that ends there
 abbrev pub ofPayload : List ℕ → Part → Extension → Payload → ℕ → Reading (Content Part)
 ofPayload s p e (shaped fs) next = upTo next (asContent (Named e) (readFields fs (take next s) (p .at)))
-ofPayload s p e whole next = got (content (Named e) (bytes p ∷ [])) next
+ofPayload s p e allData next = got (content (Named e) (bytes p ∷ [])) next
 
 -- by what is found of the identifier
 abbrev pub ofFound : List ℕ → Part → Part → Found → ℕ → Reading (Content Part)
@@ -143,7 +143,7 @@ spareIn fs s at end = ifGot (readFields fs s at) (λ next. end - next)
 
 abbrev pub payloadRemarks : List ℕ → Part → Payload → ℕ → ℕ
 payloadRemarks s p (shaped fs) next = remarks fs (take next s) (p .at) + spareIn fs (take next s) (p .at) next
-payloadRemarks s p whole next = 0
+payloadRemarks s p allData next = 0
 
 abbrev pub foundRemarks : List ℕ → Part → Found → ℕ → ℕ
 foundRemarks s p (Known e) next = payloadRemarks s p (payloadAt e) next
@@ -170,7 +170,7 @@ followingRemark nowhere s i = 0
 followingRemark (isNumber c) s i = 0
 followingRemark (following c) s (ints.Got z next remark) = remarkIn (readInt s next)
 followingRemark (following c) s ints.RunsOut = 0
-followingRemark first s i = 0
+followingRemark leading s i = 0
 
 abbrev pub clientRemark : Kind → List ℕ → IntRead → ℕ
 clientRemark k s i = followingRemark (kindRow k .client) s i

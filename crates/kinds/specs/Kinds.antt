@@ -38,9 +38,14 @@ abbrev pub playerKind : Bool → ℤ → Kind
 playerKind true c = PlayerOld c
 playerKind false c = PlayerNew c
 
-abbrev pub extension : Version → ℕ → Reading Kind
-extension V1 next = refused (UnknownType (negsuc 10))
-extension V2 next = got Ex next
+-- extensions come in version 2 only
+abbrev pub hasEx : Version → Bool
+hasEx V1 = false
+hasEx V2 = true
+
+abbrev pub extensionKind : Version → ℕ → Reading Kind
+extensionKind V1 next = refused (UnknownType (negsuc 10))
+extensionKind V2 next = got Ex next
 
 -- `negsuc n` is -(n + 1)
 abbrev pub kindOf : Version → List ℕ → ℤ → ℕ → Reading Kind
@@ -55,7 +60,7 @@ kindOf v s (negsuc (suc (suc (suc (suc (suc (suc zero))))))) next = got Message 
 kindOf v s (negsuc (suc (suc (suc (suc (suc (suc (suc zero)))))))) next = got Join next
 kindOf v s (negsuc (suc (suc (suc (suc (suc (suc (suc (suc zero))))))))) next = got Drop next
 kindOf v s (negsuc (suc (suc (suc (suc (suc (suc (suc (suc (suc zero)))))))))) next = got ConsoleCommand next
-kindOf v s (negsuc (suc (suc (suc (suc (suc (suc (suc (suc (suc (suc zero))))))))))) next = extension v next
+kindOf v s (negsuc (suc (suc (suc (suc (suc (suc (suc (suc (suc (suc zero))))))))))) next = extensionKind v next
 kindOf v s (negsuc (suc (suc (suc (suc (suc (suc (suc (suc (suc (suc (suc n)))))))))))) next = refused (UnknownType (negsuc (11 + n)))
 
 abbrev pub afterNumber : Version → List ℕ → IntRead → Reading Kind
@@ -73,7 +78,7 @@ pub data Client : Type 0 where
   nowhere : Client
   isNumber : ℤ → Client
   following : ℤ → Client
-  first : Client
+  leading : Client
 
 -- what stands beside a record: nothing, the ten numbers of an input, the arguments of a command. Or the record is an extension
 pub data Beside : Type 0 where
@@ -104,22 +109,22 @@ pub record KindRow : Type 0 where
   pub beside : Beside
   pub sort : Sort
 
-abbrev row : ℤ → Client → List Field → Beside → Sort → KindRow
-row z c fs b r = record { number = z; client = c; own = fs; beside = b; sort = r }
+abbrev is : ℤ → Client → List Field → Beside → Sort → KindRow
+is z c fs b r = record { number = z; client = c; own = fs; beside = b; sort = r }
 
 abbrev pub kindRow : Kind → KindRow
-kindRow (PlayerDiff c) = row c (isNumber c) (int ∷ int ∷ []) nothing (player moves c)
-kindRow Finish = row (negsuc 0) nowhere [] nothing finish
-kindRow TickSkip = row (negsuc 1) nowhere (dt ∷ []) nothing skip
-kindRow (PlayerNew c) = row (negsuc 2) (following c) (int ∷ int ∷ []) nothing (player comes c)
-kindRow (PlayerOld c) = row (negsuc 3) (following c) [] nothing (player leaves c)
-kindRow InputDiff = row (negsuc 4) first (int ∷ []) ten (input false)
-kindRow InputNew = row (negsuc 5) first (int ∷ []) ten (input true)
-kindRow Message = row (negsuc 6) first (int ∷ blob ∷ []) nothing (other false)
-kindRow Join = row (negsuc 7) first (int ∷ []) nothing (other false)
-kindRow Drop = row (negsuc 8) first (int ∷ str ∷ []) nothing (other false)
-kindRow ConsoleCommand = row (negsuc 9) first (int ∷ mask ∷ str ∷ []) arguments (other false)
-kindRow Ex = row (negsuc 10) nowhere [] ofExtension (other true)
+kindRow (PlayerDiff c) = is c (isNumber c) (int ∷ int ∷ []) nothing (player moves c)
+kindRow Finish = is (negsuc 0) nowhere [] nothing finish
+kindRow TickSkip = is (negsuc 1) nowhere (dt ∷ []) nothing skip
+kindRow (PlayerNew c) = is (negsuc 2) (following c) (int ∷ int ∷ []) nothing (player comes c)
+kindRow (PlayerOld c) = is (negsuc 3) (following c) [] nothing (player leaves c)
+kindRow InputDiff = is (negsuc 4) leading (int ∷ []) ten (input false)
+kindRow InputNew = is (negsuc 5) leading (int ∷ []) ten (input true)
+kindRow Message = is (negsuc 6) leading (int ∷ blob ∷ []) nothing (other false)
+kindRow Join = is (negsuc 7) leading (int ∷ []) nothing (other false)
+kindRow Drop = is (negsuc 8) leading (int ∷ str ∷ []) nothing (other false)
+kindRow ConsoleCommand = is (negsuc 9) leading (int ∷ mask ∷ str ∷ []) arguments (other false)
+kindRow Ex = is (negsuc 10) nowhere [] ofExtension (other true)
 
 -- a kind whose records have arguments beside them
 abbrev pub hasArguments : Beside → Bool
@@ -147,7 +152,7 @@ abbrev pub clientIs : Client → ℤ → Cid
 clientIs nowhere z = NoCid
 clientIs (isNumber c) z = Of c
 clientIs (following c) z = Of c
-clientIs first z = Of z
+clientIs leading z = Of z
 
 abbrev pub kindCid : Kind → ℤ → Cid
 kindCid k z = clientIs (kindRow k .client) z

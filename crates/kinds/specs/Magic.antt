@@ -11,11 +11,11 @@ use Rattle.kinds.specs.declared.Version.{Version}
 use Rattle.kinds.specs.declared.Version.the-variants.{V1, V2}
 
 -- two lists of bytes are the same
-unfoldable pub same : List ℕ → List ℕ → Bool
-same [] [] = true
-same [] (y ∷ ys) = false
-same (x ∷ xs) [] = false
-same (x ∷ xs) (y ∷ ys) = eqb x y && same xs ys
+unfoldable pub sameBytes : List ℕ → List ℕ → Bool
+sameBytes [] [] = true
+sameBytes [] (y ∷ ys) = false
+sameBytes (x ∷ xs) [] = false
+sameBytes (x ∷ xs) (y ∷ ys) = eqb x y && sameBytes xs ys
 
 unfoldable pub magic : List ℕ
 magic = 0x69 ∷ 0x9d ∷ 0xb1 ∷ 0x7b ∷ 0x8e ∷ 0xfb ∷ 0x34 ∷ 0xff ∷ 0xb1 ∷ 0xd8 ∷ 0xda ∷ 0x6f ∷ 0x60 ∷ 0xc1 ∷ 0x5d ∷ 0xd1 ∷ []
@@ -25,7 +25,7 @@ unfoldable pub readMagic : List ℕ → Said Unit
 readMagic s =
     cond (ltb (length s) 16)
     (refusing UnexpectedEnd)
-    (cond (same (take 16 s) magic) (gives tt 16) (refusing WrongMagic))
+    (cond (sameBytes (take 16 s) magic) (gives tt 16) (refusing WrongMagic))
 
 -- versions 1 and 2, of no bytes; another is refusal 2
 abbrev pub versionOf : ℤ → Said Version

@@ -29,7 +29,7 @@ use denote.Struct.Steps.{spelt}
 use denote.Struct.Laws as LL
 use denote.Enum.Laws as EL
 use Rattle.state.specs.State.{Memory, memory}
-use Rattle.state.specs.Reading.{step, callOn}
+use Rattle.state.specs.Reading.{stepOf, callOn}
 use Rattle.state.specs.Views.{saidIs, slimStep}
 use Rattle.state.specs.declared.Scalars.{Scalars}
 use Rattle.state.specs.declared.Answer.{Answer}
@@ -139,7 +139,7 @@ after zs =
     memory (zs .0) (zs .1 .0) (zs .1 .1 .0) (zs .1 .1 .1 .0) (zs .1 .1 .1 .1 .0) (zs .1 .1 .1 .1 .1 .0) (zs .1 .1 .1 .1 .1 .1 .0)
 
 abbrev pub Says : Scalars → Lent → Answer → Scalars → Left → Type 0
-Says h a r s zs = step (saidIs r) s (after zs) ≡ slimStep (callOn h (before a) (window a .now) (flag a))
+Says h a r s zs = stepOf (saidIs r) s (after zs) ≡ slimStep (callOn h (before a) (window a .now) (flag a))
 
 -- ---- the machine values of scalars, of an answer and of an outcome
 

@@ -2,7 +2,7 @@
 // tested for first, as in every reading call.
 ghost use mathlib.Core.Path.{_≡_};
 ghost use Rattle.state.specs.State.{memory};
-ghost use Rattle.state.specs.Reading.{step, callOn};
+ghost use Rattle.state.specs.Reading.{stepOf, callOn};
 ghost use Rattle.state.specs.Views.{saidIs, done, slimStep};
 use refusal::Refusal;
 use state::Answer;
@@ -50,7 +50,7 @@ pub fn read_lent(
     last: bool,
 ) -> Answer
     ensures { λ r. ⌜
-        step (saidIs r) (now (scalars .exit)) (memory (now (marks .exit)) (now (xs .exit)) (now (ys .exit)) (now (held .exit)) (now (inputs .exit)) (now (input .exit)) (now (former .exit)))
+        stepOf (saidIs r) (now (scalars .exit)) (memory (now (marks .exit)) (now (xs .exit)) (now (ys .exit)) (now (held .exit)) (now (inputs .exit)) (now (input .exit)) (now (former .exit)))
         ≡ slimStep (callOn (now (scalars .entry)) (memory (now (marks .entry)) (now (xs .entry)) (now (ys .entry)) (now (held .entry)) (now (inputs .entry)) (now (input .entry)) (now (former .entry))) (now (w .entry)) last)
         ⌝ }
 {

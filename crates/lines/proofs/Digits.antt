@@ -9,23 +9,23 @@ use lib.ListN.{length}
 use lib.Dec.{ltb}
 use borrow.Author.Tests.{lt-ltb, le-ltb}
 use Rattle.packer.proofs.Joined.{Put, first-fits, next-fits, two-puts}
-use Rattle.lines.specs.Lines.{digits, natural}
+use Rattle.lines.specs.Lines.{decimalDigits, natural}
 
 cond-append : (t : Bool) (x y b : List ℕ) → cond t x y ++ b ≡ cond t (x ++ b) (y ++ b)
 cond-append true x y b = refl
 cond-append false x y b = refl
 
 -- the bytes behind the digits
-digits-before : (k n : ℕ) (a b : List ℕ) → digits k n (a ++ b) ≡ digits k n a ++ b
-unfolding digits
+digits-before : (k n : ℕ) (a b : List ℕ) → decimalDigits k n (a ++ b) ≡ decimalDigits k n a ++ b
+unfolding decimalDigits
 digits-before zero n a b = refl
 digits-before (suc k) n a b =
     ap (cond (ltb n 10) ((48 + n) ∷ (a ++ b))) (digits-before k (n / 10) ((48 + n % 10) ∷ a) b)
-    ∙ sym (cond-append (ltb n 10) ((48 + n) ∷ a) (digits k (n / 10) ((48 + n % 10) ∷ a)) b)
+    ∙ sym (cond-append (ltb n 10) ((48 + n) ∷ a) (decimalDigits k (n / 10) ((48 + n % 10) ∷ a)) b)
 
 -- where so many digits are enough, more are allowed in vain
-steady : (k n : ℕ) (rest : List ℕ) → n < 10 ^ suc k → digits (suc k) n rest ≡ digits (suc (suc k)) n rest
-unfolding digits
+steady : (k n : ℕ) (rest : List ℕ) → n < 10 ^ suc k → decimalDigits (suc k) n rest ≡ decimalDigits (suc (suc k)) n rest
+unfolding decimalDigits
 steady zero n rest h = let t = lt-ltb n 10 (omega (arith, pow-suc 10 0)) in simp t
 steady (suc k) n rest h =
     ap (cond (ltb n 10) ((48 + n) ∷ rest)) (steady k (n / 10) ((48 + n % 10) ∷ rest) (omega (arith, pow-suc 10 (suc k))))
@@ -34,11 +34,11 @@ cond-length : (t : Bool) (x y : List ℕ) (n : ℕ) → length x ≤ n → lengt
 cond-length true x y n h j = h
 cond-length false x y n h j = j
 
-digits-le : (k n : ℕ) (rest : List ℕ) → length (digits k n rest) ≤ k + length rest
-unfolding digits
+digits-le : (k n : ℕ) (rest : List ℕ) → length (decimalDigits k n rest) ≤ k + length rest
+unfolding decimalDigits
 digits-le zero n rest = omega arith
 digits-le (suc k) n rest =
-    cond-length (ltb n 10) ((48 + n) ∷ rest) (digits k (n / 10) ((48 + n % 10) ∷ rest)) (suc k + length rest) (omega arith)
+    cond-length (ltb n 10) ((48 + n) ∷ rest) (decimalDigits k (n / 10) ((48 + n % 10) ∷ rest)) (suc k + length rest) (omega arith)
     (omega (arith, digits-le k (n / 10) ((48 + n % 10) ∷ rest)))
 
 pub natural-le : (n : ℕ) → length (natural n) ≤ 10
@@ -46,11 +46,11 @@ unfolding natural
 natural-le n = omega (arith, digits-le 10 n [])
 
 pub natural-one : (n : ℕ) → n ≤ 9 → natural n ≡ (48 + n) ∷ []
-unfolding natural digits
+unfolding natural decimalDigits
 natural-one n h = let t = lt-ltb n 10 (omega arith) in simp t
 
 pub natural-more : (n : ℕ) → 9 < n → n < 4294967296 → natural n ≡ natural (n / 10) ++ ((48 + n % 10) ∷ [])
-unfolding natural digits
+unfolding natural decimalDigits
 natural-more n h f =
     let t = le-ltb n 10 (omega arith) in
     let d = (48 + n % 10) ∷ [] in

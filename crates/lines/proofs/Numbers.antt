@@ -11,7 +11,7 @@ use lib.Signed.{mag}
 use Rattle.varint.specs.Written.{written}
 use Rattle.varint.proofs.Writing.{fits-written}
 use Rattle.packer.proofs.Joined.{Put, joined, written-length, first-fits, next-fits, two-puts}
-use Rattle.lines.specs.Lines.{natural, spaced, numbers}
+use Rattle.lines.specs.Lines.{natural, spaced, decimals}
 use Rattle.lines.proofs.Digits.{natural-le}
 
 -- ---- one number
@@ -65,28 +65,28 @@ module _ (xs : List ℕ) (at : ℕ) (z : ℤ) (fits : at + length (spaced z) ≤
 
 -- ---- several
 
-pub none : numbers [] ≡ []
-unfolding numbers
+pub none : decimals [] ≡ []
+unfolding decimals
 none = refl
 
-pub numbers-at : (ns : List ℤ) (i : ℕ) → i < length ns → numbers (drop i ns) ≡ spaced (getD ns i (pos 0)) ++ numbers (drop (i + 1) ns)
-unfolding numbers
+pub numbers-at : (ns : List ℤ) (i : ℕ) → i < length ns → decimals (drop i ns) ≡ spaced (getD ns i (pos 0)) ++ decimals (drop (i + 1) ns)
+unfolding decimals
 numbers-at ns i h = rw (add-one, drop-cons ns i (pos 0) h)
 
 -- one more of them
-module _ (ns : List ℤ) (i : ℕ) (h : i < length ns) (out : List ℕ) (next : ℕ) (fits : next + length (numbers (drop i ns)) ≤ length out) where
-  split : next + length (spaced (getD ns i (pos 0)) ++ numbers (drop (i + 1) ns)) ≤ length out
+module _ (ns : List ℤ) (i : ℕ) (h : i < length ns) (out : List ℕ) (next : ℕ) (fits : next + length (decimals (drop i ns)) ≤ length out) where
+  split : next + length (spaced (getD ns i (pos 0)) ++ decimals (drop (i + 1) ns)) ≤ length out
   split = rw (numbers-at ns i h) at fits
 
   pub one-fits : next + length (spaced (getD ns i (pos 0))) ≤ length out
-  one-fits = first-fits out next (spaced (getD ns i (pos 0))) (numbers (drop (i + 1) ns)) split
+  one-fits = first-fits out next (spaced (getD ns i (pos 0))) (decimals (drop (i + 1) ns)) split
 
   module _ (m : ℕ) (ys : List ℕ) (p : Put out next (spaced (getD ns i (pos 0))) m ys) where
     pub same-size : length ys ≡ length out
     same-size = ap length (p .1) ∙ written-length out next (spaced (getD ns i (pos 0))) one-fits
 
-    pub same-end : m + length (numbers (drop (i + 1) ns)) ≡ next + length (numbers (drop i ns))
-    same-end = rw (numbers-at ns i h) (omega (arith, p .0, length-append (spaced (getD ns i (pos 0))) (numbers (drop (i + 1) ns))))
+    pub same-end : m + length (decimals (drop (i + 1) ns)) ≡ next + length (decimals (drop i ns))
+    same-end = rw (numbers-at ns i h) (omega (arith, p .0, length-append (spaced (getD ns i (pos 0))) (decimals (drop (i + 1) ns))))
 
-    pub same-bytes : written ys m (numbers (drop (i + 1) ns)) ≡ written out next (numbers (drop i ns))
-    same-bytes = rw (numbers-at ns i h, p .0, p .1) (joined out next (spaced (getD ns i (pos 0))) (numbers (drop (i + 1) ns)) split)
+    pub same-bytes : written ys m (decimals (drop (i + 1) ns)) ≡ written out next (decimals (drop i ns))
+    same-bytes = rw (numbers-at ns i h, p .0, p .1) (joined out next (spaced (getD ns i (pos 0))) (decimals (drop (i + 1) ns)) split)

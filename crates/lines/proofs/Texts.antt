@@ -18,7 +18,7 @@ use Rattle.kinds.specs.declared.Cid.the-variants.{Of, NoCid}
 use Rattle.state.specs.Reading.{Event, tickStart, tickEnd, playerNew, playerChange, playerOld, input, other}
 use Rattle.lines.specs.Lines.{
   spaced,
-  numbers,
+  decimals,
   newline,
   startWord,
   endWord,
@@ -39,23 +39,23 @@ use Rattle.lines.specs.Lines.{
 }
 use Rattle.lines.proofs.Numbers.{spaced-le}
 
-numbers-le : (ns : List ℤ) → length (numbers ns) ≤ 12 * length ns
-unfolding numbers
+numbers-le : (ns : List ℤ) → length (decimals ns) ≤ 12 * length ns
+unfolding decimals
 numbers-le [] = omega arith
-numbers-le (z ∷ ns) = omega (arith, length-append (spaced z) (numbers ns), spaced-le z, numbers-le ns)
+numbers-le (z ∷ ns) = omega (arith, length-append (spaced z) (decimals ns), spaced-le z, numbers-le ns)
 
-pub end-le : (ns : List ℤ) → length (numbers ns ++ newline) ≤ 12 * length ns + 1
-end-le ns = omega (arith, length-append (numbers ns) newline, numbers-le ns)
+pub end-le : (ns : List ℤ) → length (decimals ns ++ newline) ≤ 12 * length ns + 1
+end-le ns = omega (arith, length-append (decimals ns) newline, numbers-le ns)
 
 -- a line of few numbers is no longer than the longest
 pub line-fits : (word : List ℕ) (ns : List ℤ) (at size : ℕ) → at + longest ≤ size → length word + 12 * length ns ≤ 137
     → at + length (plainLine word ns) ≤ size
-line-fits word ns at size h k = omega (arith, length-append word (numbers ns ++ newline), end-le ns)
+line-fits word ns at size h k = omega (arith, length-append word (decimals ns ++ newline), end-le ns)
 
 -- no line is longer
 module _ (ten : List ℤ) (h : length ten ≡ 10) where
   short : (word : List ℕ) (ns : List ℤ) → length word + 12 * length ns ≤ 137 → length (plainLine word ns) ≤ longest
-  short word ns k = omega (arith, length-append word (numbers ns ++ newline), end-le ns)
+  short word ns k = omega (arith, length-append word (decimals ns ++ newline), end-le ns)
 
   client-le : (i : Cid) → length (client i) ≤ 12
   client-le (Of z) = omega (arith, numbers-le (z ∷ []))
@@ -69,7 +69,7 @@ module _ (ten : List ℤ) (h : length ten ≡ 10) where
   line-le (playerOld c x y) = short oldWord (c ∷ x ∷ y ∷ []) (omega arith)
   line-le (input c former) = short inputWord (c ∷ ten) (omega arith)
   line-le (other r) =
-      let n = numbers (tagNumber (r .tag) ∷ []) in
+      let n = decimals (tagNumber (r .tag) ∷ []) in
       let i = client (cidOf r) in
       omega (arith, length-append n (i ++ newline), length-append i newline, numbers-le (tagNumber (r .tag) ∷ []), client-le (cidOf r))
 
@@ -100,13 +100,13 @@ module _ (xs : List ℕ) (at : ℕ) (word : List ℕ) (z : ℤ) (rest : List ℕ
 
 -- an input
 module _ (z : ℤ) (ten : List ℤ) where
-  pub input-parts : (inputWord ++ spaced z) ++ (numbers ten ++ newline) ≡ plainLine inputWord (z ∷ ten)
-  unfolding numbers
+  pub input-parts : (inputWord ++ spaced z) ++ (decimals ten ++ newline) ≡ plainLine inputWord (z ∷ ten)
+  unfolding decimals
   input-parts = simp append-assoc
 
   pub input-fits : (at size : ℕ) → at + (18 + 12 * length ten) ≤ size
-      → at + length ((inputWord ++ spaced z) ++ (numbers ten ++ newline)) ≤ size
-  input-fits at size h = omega (arith, length-append (spaced z) (numbers ten ++ newline), spaced-le z, end-le ten)
+      → at + length ((inputWord ++ spaced z) ++ (decimals ten ++ newline)) ≤ size
+  input-fits at size h = omega (arith, length-append (spaced z) (decimals ten ++ newline), spaced-le z, end-le ten)
 
 abbrev pub noClient : List ℕ
 noClient = 0x20 ∷ 0x2D ∷ 0x0A ∷ []
@@ -117,11 +117,11 @@ no-client-fits k at size h = omega (arith, length-append (spaced k) noClient, sp
 -- a record with a client, and with none
 module _ (k : ℤ) where
   pub client-parts : (z : ℤ) → plainLine recordWord (k ∷ z ∷ []) ≡ recordLine k (Of z)
-  unfolding numbers
+  unfolding decimals
   client-parts z = simp append-assoc
 
   pub no-client-parts : (recordWord ++ spaced k) ++ noClient ≡ recordLine k NoCid
-  unfolding numbers
+  unfolding decimals
   no-client-parts = simp append-assoc
 
 -- ---- what the public calls answer

@@ -22,26 +22,26 @@ use Rattle.lines.specs.declared.Ending.the-variants.{Finish, Refused, To
 -- ---- numbers
 
 -- the decimal digits of n before some bytes, at most so many
-unfoldable pub digits : ℕ → ℕ → List ℕ → List ℕ
-digits zero n rest = rest
-digits (suc k) n rest = cond (ltb n 10) ((48 + n) ∷ rest) (digits k (n / 10) ((48 + n % 10) ∷ rest))
+unfoldable pub decimalDigits : ℕ → ℕ → List ℕ → List ℕ
+decimalDigits zero n rest = rest
+decimalDigits (suc k) n rest = cond (ltb n 10) ((48 + n) ∷ rest) (decimalDigits k (n / 10) ((48 + n % 10) ∷ rest))
 
 -- a number of at most ten digits
 unfoldable pub natural : ℕ → List ℕ
-natural n = digits 10 n []
+natural n = decimalDigits 10 n []
 
-abbrev pub number : ℤ → List ℕ
-number (pos n) = natural n
-number (negsuc n) = 0x2D ∷ natural (suc n)
+abbrev pub decimal : ℤ → List ℕ
+decimal (pos n) = natural n
+decimal (negsuc n) = 0x2D ∷ natural (suc n)
 
 -- a space and a number
 unfoldable pub spaced : ℤ → List ℕ
-spaced z = 0x20 ∷ number z
+spaced z = 0x20 ∷ decimal z
 
 -- numbers, a space before each
-unfoldable pub numbers : List ℤ → List ℕ
-numbers [] = []
-numbers (z ∷ zs) = spaced z ++ numbers zs
+unfoldable pub decimals : List ℤ → List ℕ
+decimals [] = []
+decimals (z ∷ zs) = spaced z ++ decimals zs
 
 -- ---- words
 
@@ -87,15 +87,15 @@ tooLongWords = text "too long"
 
 -- the client, or `-`
 abbrev pub client : Cid → List ℕ
-client (Of c) = numbers (c ∷ [])
+client (Of c) = decimals (c ∷ [])
 client NoCid = 0x20 ∷ 0x2D ∷ []
 
 -- a word and numbers
 abbrev pub plainLine : List ℕ → List ℤ → List ℕ
-plainLine word ns = word ++ (numbers ns ++ newline)
+plainLine word ns = word ++ (decimals ns ++ newline)
 
 abbrev pub recordLine : ℤ → Cid → List ℕ
-recordLine k c = recordWord ++ (numbers (k ∷ []) ++ (client c ++ newline))
+recordLine k c = recordWord ++ (decimals (k ∷ []) ++ (client c ++ newline))
 
 abbrev pub lineOf : Event → List ℤ → List ℕ
 lineOf (tickStart t) ten = plainLine startWord (t ∷ [])

@@ -7,7 +7,7 @@ ghost use lib.ListN.{length};
 ghost use Rattle.lines.specs.Lines.{
   natural,
   spaced,
-  numbers,
+  decimals,
   newline,
   inputWord,
   plainLine,
@@ -20,7 +20,7 @@ ghost use Rattle.lines.specs.Lines.{
   lineAnswer,
   lineTarget,
 };
-ghost use Rattle.lines.specs.Puts.{Puts};
+ghost use Rattle.lines.specs.steps.Puts.{PutsText};
 use kinds::Cid;
 use refusal::Refusal;
 use varint::Wrote;
@@ -35,7 +35,7 @@ pub enum Ending {
 // The two digits of a number below 100, a 0 before one that has only one.
 fn put_pair(n: u32, out: &mut [u8], at: usize) -> usize
     requires { ⌜ (n < 100) × (at + 2 ≤ length (now out)) ⌝ }
-    ensures { λ r. ⌜ Puts (now (out .entry)) at ((48 + n / 10) ∷ (48 + n % 10) ∷ []) r (now (out .exit)) ⌝ }
+    ensures { λ r. ⌜ PutsText (now (out .entry)) at ((48 + n / 10) ∷ (48 + n % 10) ∷ []) r (now (out .exit)) ⌝ }
 {
     // two bytes as one number: the compiler stores them at once
     let both = 12336 + 256 * (n % 10) + n / 10;
@@ -47,7 +47,7 @@ fn put_pair(n: u32, out: &mut [u8], at: usize) -> usize
 // A number below 100.
 fn put_two(n: u32, out: &mut [u8], at: usize) -> usize
     requires { ⌜ (n < 100) × (at + length (natural n) ≤ length (now out)) ⌝ }
-    ensures { λ r. ⌜ Puts (now (out .entry)) at (natural n) r (now (out .exit)) ⌝ }
+    ensures { λ r. ⌜ PutsText (now (out .entry)) at (natural n) r (now (out .exit)) ⌝ }
 {
     if 9 < n {
         return put_pair(n, out, at);
@@ -59,7 +59,7 @@ fn put_two(n: u32, out: &mut [u8], at: usize) -> usize
 // Two pairs: the four digits of a number below 10000.
 fn put_pairs(n: u32, out: &mut [u8], at: usize) -> usize
     requires { ⌜ (n < 10000) × (at + 4 ≤ length (now out)) ⌝ }
-    ensures { λ r. ⌜ Puts (now (out .entry)) at ((48 + n / 100 / 10) ∷ (48 + n / 100 % 10) ∷ (48 + n % 100 / 10) ∷ (48 + n % 100 % 10) ∷ []) r (now (out .exit)) ⌝ }
+    ensures { λ r. ⌜ PutsText (now (out .entry)) at ((48 + n / 100 / 10) ∷ (48 + n / 100 % 10) ∷ (48 + n % 100 / 10) ∷ (48 + n % 100 % 10) ∷ []) r (now (out .exit)) ⌝ }
 {
     let next = put_pair(n / 100, out, at);
     put_pair(n % 100, out, next)
@@ -68,7 +68,7 @@ fn put_pairs(n: u32, out: &mut [u8], at: usize) -> usize
 // A number below 1000000.
 fn put_six(n: u32, out: &mut [u8], at: usize) -> usize
     requires { ⌜ (n < 1000000) × (at + length (natural n) ≤ length (now out)) ⌝ }
-    ensures { λ r. ⌜ Puts (now (out .entry)) at (natural n) r (now (out .exit)) ⌝ }
+    ensures { λ r. ⌜ PutsText (now (out .entry)) at (natural n) r (now (out .exit)) ⌝ }
 {
     if n < 100 {
         return put_two(n, out, at);
@@ -84,7 +84,7 @@ fn put_six(n: u32, out: &mut [u8], at: usize) -> usize
 // The digits of n.
 fn put_natural(n: u32, out: &mut [u8], at: usize) -> usize
     requires { ⌜ at + length (natural n) ≤ length (now out) ⌝ }
-    ensures { λ r. ⌜ Puts (now (out .entry)) at (natural n) r (now (out .exit)) ⌝ }
+    ensures { λ r. ⌜ PutsText (now (out .entry)) at (natural n) r (now (out .exit)) ⌝ }
 {
     if 9999 < n {
         let next = put_six(n / 10000, out, at);
@@ -96,7 +96,7 @@ fn put_natural(n: u32, out: &mut [u8], at: usize) -> usize
 // A space and a number.
 fn put_spaced(value: i32, out: &mut [u8], at: usize) -> usize
     requires { ⌜ at + length (spaced value) ≤ length (now out) ⌝ }
-    ensures { λ r. ⌜ Puts (now (out .entry)) at (spaced value) r (now (out .exit)) ⌝ }
+    ensures { λ r. ⌜ PutsText (now (out .entry)) at (spaced value) r (now (out .exit)) ⌝ }
 {
     out[at] = b' ';
     if value < 0 {
@@ -108,8 +108,8 @@ fn put_spaced(value: i32, out: &mut [u8], at: usize) -> usize
 
 // Numbers, a space before each.
 fn put_numbers(ns: &[i32], out: &mut [u8], at: usize) -> usize
-    requires { ⌜ at + length (numbers (now ns)) ≤ length (now out) ⌝ }
-    ensures { λ r. ⌜ Puts (now (out .entry)) at (numbers (now (ns .entry))) r (now (out .exit)) ⌝ }
+    requires { ⌜ at + length (decimals (now ns)) ≤ length (now out) ⌝ }
+    ensures { λ r. ⌜ PutsText (now (out .entry)) at (decimals (now (ns .entry))) r (now (out .exit)) ⌝ }
 {
     let mut i = 0;
     let mut next = at;
@@ -123,7 +123,7 @@ fn put_numbers(ns: &[i32], out: &mut [u8], at: usize) -> usize
 // A word.
 fn put_word(word: &[u8], out: &mut [u8], at: usize) -> usize
     requires { ⌜ at + length (now word) ≤ length (now out) ⌝ }
-    ensures { λ r. ⌜ Puts (now (out .entry)) at (now (word .entry)) r (now (out .exit)) ⌝ }
+    ensures { λ r. ⌜ PutsText (now (out .entry)) at (now (word .entry)) r (now (out .exit)) ⌝ }
 {
     let Wrote::Past(next) = packer::write_raw(word, out, at) else {
         return at;
@@ -133,8 +133,8 @@ fn put_word(word: &[u8], out: &mut [u8], at: usize) -> usize
 
 // Numbers and the line's end.
 fn put_end(ns: &[i32], out: &mut [u8], at: usize) -> usize
-    requires { ⌜ at + length (numbers (now ns) ++ newline) ≤ length (now out) ⌝ }
-    ensures { λ r. ⌜ Puts (now (out .entry)) at (numbers (now (ns .entry)) ++ newline) r (now (out .exit)) ⌝ }
+    requires { ⌜ at + length (decimals (now ns) ++ newline) ≤ length (now out) ⌝ }
+    ensures { λ r. ⌜ PutsText (now (out .entry)) at (decimals (now (ns .entry)) ++ newline) r (now (out .exit)) ⌝ }
 {
     let end = put_numbers(ns, out, at);
     out[end] = b'\n';
@@ -144,7 +144,7 @@ fn put_end(ns: &[i32], out: &mut [u8], at: usize) -> usize
 // A line: a word and numbers.
 fn put_line(word: &[u8], ns: &[i32], out: &mut [u8], at: usize) -> usize
     requires { ⌜ at + length (plainLine (now word) (now ns)) ≤ length (now out) ⌝ }
-    ensures { λ r. ⌜ Puts (now (out .entry)) at (plainLine (now (word .entry)) (now (ns .entry))) r (now (out .exit)) ⌝ }
+    ensures { λ r. ⌜ PutsText (now (out .entry)) at (plainLine (now (word .entry)) (now (ns .entry))) r (now (out .exit)) ⌝ }
 {
     let next = put_word(word, out, at);
     put_end(ns, out, next)
@@ -153,7 +153,7 @@ fn put_line(word: &[u8], ns: &[i32], out: &mut [u8], at: usize) -> usize
 // The line of an input.
 fn put_input(cid: i32, ten: &[i32], out: &mut [u8], at: usize) -> usize
     requires { ⌜ at + (18 + 12 * length (now ten)) ≤ length (now out) ⌝ }
-    ensures { λ r. ⌜ Puts (now (out .entry)) at (plainLine inputWord (cid ∷ now (ten .entry))) r (now (out .exit)) ⌝ }
+    ensures { λ r. ⌜ PutsText (now (out .entry)) at (plainLine inputWord (cid ∷ now (ten .entry))) r (now (out .exit)) ⌝ }
 {
     let a = put_word(b"input", out, at);
     let b = put_spaced(cid, out, a);
@@ -163,7 +163,7 @@ fn put_input(cid: i32, ten: &[i32], out: &mut [u8], at: usize) -> usize
 // The line of a record: its kind's number, and the client or `-`.
 fn put_record(number: i32, cid: Cid, out: &mut [u8], at: usize) -> usize
     requires { ⌜ at + longest ≤ length (now out) ⌝ }
-    ensures { λ r. ⌜ Puts (now (out .entry)) at (recordLine number cid) r (now (out .exit)) ⌝ }
+    ensures { λ r. ⌜ PutsText (now (out .entry)) at (recordLine number cid) r (now (out .exit)) ⌝ }
 {
     match cid {
         Cid::Of(client) => put_line(b"record", &[number, client], out, at),
@@ -177,7 +177,7 @@ fn put_record(number: i32, cid: Cid, out: &mut [u8], at: usize) -> usize
 
 // Whether behind the place there is room for a word of so many bytes, so many numbers at their longest and the line's end.
 fn has_room(len: usize, at: usize, word: usize, numbers: usize) -> bool
-    ensures { λ r. ⌜ r ≡ leb (at + (word + 12 * numbers + 1)) len ⌝ }
+    ensures { λ r. ⌜ r ≡ leb (at + (word + 12 * decimals + 1)) len ⌝ }
 {
     if len < at {
         return false;
@@ -231,7 +231,7 @@ pub fn write_record(number: i32, cid: Cid, out: &mut [u8], at: usize) -> Wrote
 // The last line's bytes.
 fn put_last(ending: Ending, out: &mut [u8], at: usize) -> usize
     requires { ⌜ at + longest ≤ length (now out) ⌝ }
-    ensures { λ r. ⌜ Puts (now (out .entry)) at (lastLine ending) r (now (out .exit)) ⌝ }
+    ensures { λ r. ⌜ PutsText (now (out .entry)) at (lastLine ending) r (now (out .exit)) ⌝ }
 {
     match ending {
         Ending::Finish => put_word(b"finish\n", out, at),

@@ -10,13 +10,13 @@ use Rattle.refusal.specs.declared.Refusal.{Refusal}
 use Rattle.refusal.specs.declared.Refusal.the-variants.{BadState, Closed}
 use Rattle.item.specs.Said.{refusing}
 use Rattle.state.specs.State.{goodReader}
-use Rattle.state.specs.Reading.{Step, step, openCall, goodCall, memoryOf, readCall, readerAfter}
+use Rattle.state.specs.Reading.{Step, stepOf, openCall, goodCall, memoryOf, readCall, readerAfter}
 use Rattle.state.specs.declared.Reader.{Reader}
 use Rattle.state.proofs.Numbers.{picks-first, picks-second}
 use Rattle.calls.specs.Calls.{Run, isPending, seenBy, before, onSaid, along, calls}
 use Rattle.rows.specs.Rows.{room}
 use Rattle.many.specs.Many.{refusedBy, manyCalls, ManyIs}
-use Rattle.many.specs.Stores.{Room, unread}
+use Rattle.many.specs.steps.Stores.{Room, notRead}
 use Rattle.many.specs.declared.ManyAnswer.{ManyAnswer}
 use Rattle.many.specs.declared.Stop.the-variants as stops
 use Rattle.many.proofs.Runs.{begun, ended}
@@ -25,15 +25,15 @@ pub room-there : (n : ℕ) (rows tens : List ℤ) → n ≡ room rows tens → R
 room-there n rows tens e = record { rows = omega arith; tens = omega arith }
 
 module _ (n : ℕ) (r : Reader) (w : List ℕ) (last : Bool) (rows tens : List ℤ) where
-  pub bad-reader : goodReader r ≡ false → ManyIs (manyCalls n r w last) rows tens (unread (stops.Refused BadState) r) rows tens
+  pub bad-reader : goodReader r ≡ false → ManyIs (manyCalls n r w last) rows tens (notRead (stops.Refused BadState) r) rows tens
   unfolding manyCalls
   bad-reader g = rw g (ended (stops.Refused BadState) _ 0 0 r refl refl (begun (refusedBy BadState r) rows tens))
 
   pub closed-reader : goodReader r ≡ true → r .scalars .closed ≡ true
-      → ManyIs (manyCalls n r w last) rows tens (unread (stops.Refused Closed) r) rows tens
+      → ManyIs (manyCalls n r w last) rows tens (notRead (stops.Refused Closed) r) rows tens
   unfolding manyCalls
   closed-reader g c =
-      subst (λ (run : Run). ManyIs run rows tens (unread (stops.Refused Closed) r) rows tens)
+      subst (λ (run : Run). ManyIs run rows tens (notRead (stops.Refused Closed) r) rows tens)
       (picks-first (r .scalars .closed) _ _ c ∙ picks-first (goodReader r) _ _ g)
       (ended (stops.Refused Closed) _ 0 0 r refl refl (begun (refusedBy Closed r) rows tens))
 
@@ -53,7 +53,7 @@ module _ (k : ℕ) (r : Reader) (w : List ℕ) (last : Bool) where
   follow t = onSaid (t .said) (λ e n. before (seenBy (isPending (r .scalars .pending)) w t e n) (calls k (readerAfter t) (drop n w) last)) (readerAfter t)
 
   abbrev refuses : Refusal → Step
-  refuses why = step (refusing why) (r .scalars) (memoryOf (r .entries))
+  refuses why = stepOf (refusing why) (r .scalars) (memoryOf (r .entries))
 
   tested-first : (good closed : Bool) (t : Step)
       → cond good (cond closed (refusedBy Closed r) (follow (cond good (cond closed (refuses Closed) t) (refuses BadState)))) (refusedBy BadState r)

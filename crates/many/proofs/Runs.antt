@@ -26,8 +26,8 @@ use Rattle.state.proofs.Theorems.{open-call-keeps, readers-stay-sound}
 use Rattle.calls.specs.Calls.{Seen, Halt, wantsMore, finishes, isRefused, Run, isPending, seenBy, stopped, before, onSaid, along, calls}
 use Rattle.rows.specs.Rows.{flag, eventRow, rowOf, eventTens, tensOf, put, rowsFrom, tensFrom}
 use Rattle.many.specs.Many.{haltOf, ManyIs}
-use Rattle.rows.specs.Stores.{EventPut}
-use Rattle.many.specs.Stores.{Room}
+use Rattle.rows.specs.steps.Stores.{EventPut}
+use Rattle.many.specs.steps.Stores.{Room}
 use Rattle.many.specs.declared.Stop.{Stop}
 use Rattle.rows.proofs.Frame.{saidTens, Alike, good-alike}
 use Rattle.calls.proofs.Slims.{slim-used, Gave, gave, said-more, said-finish, said-refuses}

@@ -7,7 +7,7 @@ use Rattle.kinds.specs.declared.Cid.{Cid}
 use Rattle.state.specs.Reading.{Event, tickStart, tickEnd, playerNew, playerChange, playerOld, input, other}
 use Rattle.state.specs.Views.{slim}
 use Rattle.step.proofs.Others.{cid-own}
-use Rattle.rows.specs.Rows.{hasClient, clientOr0, eight, eventRow, eventTens}
+use Rattle.rows.specs.Rows.{clientFlag, clientOr0, eight, eventRow, eventTens}
 
 pub slim-row : (e : Event) (n p : ℤ) → eventRow (slim e) n p ≡ eventRow e n p
 slim-row (tickStart t) n p = refl
@@ -16,7 +16,7 @@ slim-row (playerNew c x y) n p = refl
 slim-row (playerChange c x y old-x old-y) n p = refl
 slim-row (playerOld c x y) n p = refl
 slim-row (input c former) n p = refl
-slim-row (other r) n p = ap (λ (c : Cid). eight 7 n (tagNumber (r .tag)) (hasClient c) (clientOr0 c) p (pos 0)) (cid-own r)
+slim-row (other r) n p = ap (λ (c : Cid). eight 7 n (tagNumber (r .tag)) (clientFlag c) (clientOr0 c) p (pos 0)) (cid-own r)
 
 pub slim-tens : (e : Event) (ten former : List ℤ) → eventTens (slim e) ten former ≡ eventTens e ten former
 slim-tens (tickStart t) ten former = refl

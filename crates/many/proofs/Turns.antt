@@ -19,8 +19,8 @@ use Rattle.state.specs.declared.Outcome.{Outcome}
 use Rattle.calls.specs.Calls.{Run, isPending, along, calls}
 use Rattle.rows.specs.Rows.{flag}
 use Rattle.many.specs.Many.{ManyIs}
-use Rattle.rows.specs.Stores.{EventPut}
-use Rattle.many.specs.Stores.{Room}
+use Rattle.rows.specs.steps.Stores.{EventPut}
+use Rattle.many.specs.steps.Stores.{Room}
 use Rattle.many.specs.declared.Stop.the-variants as stops
 use Rattle.many.proofs.Runs.{readerOf, Behind, begun, ended, stays-sound, uses, ends-more, ends-finish, ends-refused, goes-on}
 

@@ -7,7 +7,7 @@ ghost use Rattle.state.specs.Laws.{Sound};
 ghost use Rattle.calls.specs.Calls.{calls};
 ghost use Rattle.rows.specs.Rows.{room};
 ghost use Rattle.many.specs.Many.{manyCalls, ManyIs};
-ghost use Rattle.many.specs.Stores.{Room, rowsRead, answerOf, unread};
+ghost use Rattle.many.specs.steps.Stores.{Room, rowsRead, answerOf, notRead};
 use refusal::Refusal;
 use state::Answer;
 use state::Entries;
@@ -170,7 +170,7 @@ fn answer_of(r: RowsRead, entries: Entries) -> ManyAnswer
 }
 
 fn unread(stop: Stop, reader: Reader) -> ManyAnswer
-    ensures { λ r. ⌜ r ≡ unread stop reader ⌝ }
+    ensures { λ r. ⌜ r ≡ notRead stop reader ⌝ }
 {
     ManyAnswer {
         stop,

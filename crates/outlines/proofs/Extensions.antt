@@ -15,22 +15,22 @@ use Rattle.packer.specs.declared.Part.{Part}
 use Rattle.fields.specs.Fields.{Value, mean}
 use Rattle.fields.specs.Writing.{allWritable, writeFields, inside, partsInside}
 use Rattle.fields.specs.declared.Args.{Args}
-use Rattle.shapes.specs.Shapes.{fieldsIn, idPart, valuesIn}
+use Rattle.shapes.specs.steps.Shapes.{fieldsIn, idPart, valuesIn}
 use Rattle.shapes.specs.declared.Shape.{Shape}
 use Rattle.shapes.specs.declared.Shape.the-variants as shapes
 use Rattle.shapes.specs.declared.Fields.{Fields}
-use Rattle.extensions.specs.Extensions.{Extension, Payload, shaped, whole, unknown, count, extensions, noExtension, idAt, payloadAt, find}
+use Rattle.extensions.specs.Extensions.{Extension, Payload, shaped, allData, unknown, count, extensions, noExtension, idAt, payloadAt, find}
 use Rattle.item.specs.Records.{Content}
 use Rattle.item.specs.Contents.{ownPayload}
-use Rattle.item.specs.Taken.{fromFields}
+use Rattle.item.specs.steps.Taken.{fromFields}
 use Rattle.kinds.specs.declared.Version.{Version}
 use Rattle.kinds.specs.declared.Version.the-variants.{V1, V2}
 use Rattle.item.specs.declared.Tag.the-variants.{Named, Other}
 use Rattle.written.specs.Written.{payloadBytes, exBytes, payloadWritable}
-use Rattle.extensions.specs.Layouts.{payloadIs}
+use Rattle.extensions.specs.steps.Layouts.{payloadIs}
 use Rattle.extensions.specs.declared.Layout.{Layout}
 use Rattle.extensions.specs.declared.Layout.the-variants as layouts
-use Rattle.outlines.specs.Outlines.{
+use Rattle.outlines.specs.steps.Outlines.{
   piecesBytes,
   piecesOk,
   planWith,

@@ -17,12 +17,12 @@ use Rattle.fields.specs.Views.{noPart}
 use Rattle.fields.specs.declared.Args.{Args}
 use Rattle.extensions.specs.Extensions.{count, idAt}
 use Rattle.ids.proofs.Table.{id-length}
-use Rattle.outlines.specs.Outlines.{
+use Rattle.outlines.specs.steps.Outlines.{
   pieceBytes,
   pieceOk,
   piecesBytes,
   piecesOk,
-  argsIn,
+  argumentsIn,
   argPieces,
   tailPieces,
   piecesOf,
@@ -147,25 +147,25 @@ pub number-past : (ten : List ℤ) (i : ℕ) → length ten ≤ i → getD (map 
 number-past ten i h = past Int ten i h
 
 module _ (xs : Args) (i : ℕ) where
-  args-length : (length (argsIn xs) ≤ xs .count) × (length (argsIn xs) ≤ length (xs .parts))
+  args-length : (length (argumentsIn xs) ≤ xs .count) × (length (argumentsIn xs) ≤ length (xs .parts))
   args-length =
       rw (length-take (xs .count) (xs .parts)) (min-le-left (xs .count) (length (xs .parts)), min-le-right (xs .count) (length (xs .parts)))
 
   pub arg-past : xs .count ≤ i → getD (argPieces xs) i Empty ≡ Empty
-  arg-past h = past Str (argsIn xs) i (omega (arith, args-length .0))
+  arg-past h = past Str (argumentsIn xs) i (omega (arith, args-length .0))
 
   module _ (n : length (xs .parts) ≡ 16) where
     pub args-few : length (argPieces xs) ≤ 16
     args-few = rw length-map (omega (arith, args-length .1))
 
     pub arg-beyond : 16 ≤ i → getD (argPieces xs) i Empty ≡ Empty
-    arg-beyond h = past Str (argsIn xs) i (omega (arith, args-length .1))
+    arg-beyond h = past Str (argumentsIn xs) i (omega (arith, args-length .1))
 
     pub arg-here : i < xs .count → i < 16 → getD (argPieces xs) i Empty ≡ Str (getD (xs .parts) i noPart)
     arg-here h k =
         let m : i < length (xs .parts) = omega arith in
-        let e : i < length (argsIn xs) = rw (length-take (xs .count) (xs .parts)) (le-min h m) in
-        getD-map Str (argsIn xs) i noPart Empty e ∙ ap Str (getD-take (xs .count) (xs .parts) i noPart h)
+        let e : i < length (argumentsIn xs) = rw (length-take (xs .count) (xs .parts)) (le-min h m) in
+        getD-map Str (argumentsIn xs) i noPart Empty e ∙ ap Str (getD-take (xs .count) (xs .parts) i noPart h)
 
 -- none stands past the end
 tail-end : (t : Tail) (ten : List ℤ) (xs : Args) → length ten ≡ 10 → length (xs .parts) ≡ 16 → 8 + length (tailPieces t ten xs) ≤ pastPieces t

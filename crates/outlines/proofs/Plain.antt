@@ -19,13 +19,13 @@ use Rattle.packer.specs.Texts.{noZero, isData}
 use Rattle.fields.specs.Writing.{allNoZero, inside, allInside}
 use Rattle.fields.specs.declared.Args.{Args}
 use Rattle.shapes.specs.declared.Fields.{Fields}
-use Rattle.item.specs.Taken.{fromFields}
+use Rattle.item.specs.steps.Taken.{fromFields}
 use Rattle.kinds.specs.declared.Version.{Version}
 use Rattle.kinds.specs.declared.Kind.{Kind}
 use Rattle.kinds.specs.declared.Kind.the-variants as kinds
 use Rattle.item.specs.declared.Tag.the-variants.{Plain}
 use Rattle.written.proofs.Unwritable.{ints-inside, few-args}
-use Rattle.outlines.specs.Outlines.{
+use Rattle.outlines.specs.steps.Outlines.{
   pieceBytes,
   pieceOk,
   piecesBytes,
@@ -33,7 +33,7 @@ use Rattle.outlines.specs.Outlines.{
   checkedPiece,
   countPiece,
   kindOutline,
-  argsIn,
+  argumentsIn,
   piecesOf,
   contentOk,
   contentBytes,
@@ -68,10 +68,10 @@ module _ (v : Version) (s : List ℕ) (f : Fields) (ten : List ℤ) (xs : Args) 
   plain-ok kinds.Join = refl
   plain-ok kinds.Drop = sym (one-text (inside s (f .text)) (noZero (shown s (f .text))))
   plain-ok kinds.ConsoleCommand =
-      rw (count-ok s (xs .count), ← strings-ok s (argsIn xs))
+      rw (count-ok s (xs .count), ← strings-ok s (argumentsIn xs))
       (sym
-      (command (leb (xs .count) 16) (leb (length (map (shown s) (argsIn xs))) 16) (inside s (f .text)) (allInside s (argsIn xs))
-      (noZero (shown s (f .text))) (allNoZero (map (shown s) (argsIn xs))) (few-args (xs .count) (shown s) (xs .parts))))
+      (command (leb (xs .count) 16) (leb (length (map (shown s) (argumentsIn xs))) 16) (inside s (f .text)) (allInside s (argumentsIn xs))
+      (noZero (shown s (f .text))) (allNoZero (map (shown s) (argumentsIn xs))) (few-args (xs .count) (shown s) (xs .parts))))
   plain-ok kinds.Ex = refl
 
   plain-bytes : (k : Kind) → contentOk v s (fromFields (Plain k) f) ten xs ≡ true
@@ -92,7 +92,7 @@ module _ (v : Version) (s : List ℕ) (f : Fields) (ten : List ℤ) (xs : Args) 
   plain-bytes kinds.ConsoleCommand e =
       let n : leb (xs .count) 16 ≡ true = and-eq-true-iff (leb (xs .count) 16) _ .0 e .0 in
       let q = length-take-le (xs .count) (xs .parts) (omega (arith, leb-true (xs .count) 16 n)) in
-      rw (n, toZ-ofZ {w = w32} {z = f .second} b, length-map (argsIn xs) (shown s), q, strings-written s (argsIn xs)) (simp append-nil)
+      rw (n, toZ-ofZ {w = w32} {z = f .second} b, length-map (argumentsIn xs) (shown s), q, strings-written s (argumentsIn xs)) (simp append-nil)
   plain-bytes kinds.Ex e = let q : _≡_ {A = ℕ} 0 1 = cc in absurd (omega arith)
 
   pub plain-outlines : (k : Kind) → Outlines v s (fromFields (Plain k) f) ten xs (kindOutline k f (xs .count))

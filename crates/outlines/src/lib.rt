@@ -2,9 +2,9 @@
 ghost use mathlib.Core.Path.{_≡_};
 ghost use lib.ListN.{length, getD};
 ghost use Rattle.fields.specs.Writing.{inside};
-ghost use Rattle.item.specs.Taken.{fromFields};
+ghost use Rattle.item.specs.steps.Taken.{fromFields};
 ghost use Rattle.item.specs.declared.Tag.the-variants.{Named, Other};
-ghost use Rattle.outlines.specs.Outlines.{
+ghost use Rattle.outlines.specs.steps.Outlines.{
   planWith,
   planOf,
   payloadPlan,

@@ -17,8 +17,8 @@ use Rattle.refusal.specs.declared.Refusal.the-variants.{
 use Rattle.num.specs.Wrap.{wrap32}
 use Rattle.item.specs.Said.{gives}
 use Rattle.state.specs.State.{Memory, withEntries, present, xOf, yOf, withPlayer, moved}
-use Rattle.state.specs.Reading.{playerNew, playerChange, playerOld, step, refusal, playerDiff, newPlayer, oldPlayer}
-use Rattle.state.specs.Inside.{noEntry}
+use Rattle.state.specs.Reading.{playerNew, playerChange, playerOld, stepOf, refusalStep, playerDiff, newPlayer, oldPlayer}
+use Rattle.state.specs.steps.Inside.{noEntry}
 use Rattle.state.specs.declared.Scalars.{Scalars}
 use Rattle.state.proofs.Numbers.{picks-first, picks-second, client-is}
 use Rattle.state.proofs.Marks.{here, away, far}
@@ -26,18 +26,18 @@ use Rattle.state.proofs.Marks.{here, away, far}
 -- ---- PlayerDiff
 
 pub diff-far : (s : Scalars) (m : Memory) (z dx dy : ℤ) (n b : ℕ) → SFits w32 z → b ≡ ofZ w32 z → 128 ≤ b
-    → refusal PlayerDiffWithoutNew s m ≡ playerDiff s m z dx dy n
+    → refusalStep PlayerDiffWithoutNew s m ≡ playerDiff s m z dx dy n
 unfolding playerDiff
 diff-far s m (pos c) dx dy n b f e h = picks-second (present (m .entries) c) _ _ (far (m .entries .marks) c (omega arith))
 diff-far s m (negsuc c) dx dy n b f e h = refl
 
 module _ (s : Scalars) (m : Memory) (z dx dy : ℤ) (n b : ℕ) (f : SFits w32 z) (e : b ≡ ofZ w32 z) (h : b < 128) where
-  pub diff-away : (getD (m .entries .marks) b 0 ≡ 1 → ⊥) → refusal PlayerDiffWithoutNew s m ≡ playerDiff s m z dx dy n
+  pub diff-away : (getD (m .entries .marks) b 0 ≡ 1 → ⊥) → refusalStep PlayerDiffWithoutNew s m ≡ playerDiff s m z dx dy n
   unfolding playerDiff
   diff-away q = rw (client-is z b f e h) (picks-second (present (m .entries) b) _ _ (away (m .entries .marks) b h q))
 
   pub diff-here : getD (m .entries .marks) b 0 ≡ 1
-      → step (gives (playerChange z (wrap32 (xOf (m .entries) b +ℤ dx)) (wrap32 (yOf (m .entries) b +ℤ dy)) (xOf (m .entries) b) (yOf (m .entries) b)) n) s
+      → stepOf (gives (playerChange z (wrap32 (xOf (m .entries) b +ℤ dx)) (wrap32 (yOf (m .entries) b +ℤ dy)) (xOf (m .entries) b) (yOf (m .entries) b)) n) s
       (withEntries (moved (m .entries) b (wrap32 (xOf (m .entries) b +ℤ dx)) (wrap32 (yOf (m .entries) b +ℤ dy))) m)
       ≡ playerDiff s m z dx dy n
   unfolding playerDiff
@@ -46,21 +46,21 @@ module _ (s : Scalars) (m : Memory) (z dx dy : ℤ) (n b : ℕ) (f : SFits w32 z
 -- ---- PlayerNew
 
 pub new-far : (s : Scalars) (m : Memory) (z x y : ℤ) (n b : ℕ) → SFits w32 z → b ≡ ofZ w32 z → 128 ≤ b
-    → refusal (noEntry b ClientTooLarge) s m ≡ newPlayer s m z x y n
+    → refusalStep (noEntry b ClientTooLarge) s m ≡ newPlayer s m z x y n
 unfolding newPlayer
 new-far s m (pos c) x y n b f e h = rw (e, lt-ltb c 2147483648 (f .sfits)) (picks-second (ltb c 128) _ _ (le-ltb c 128 (omega arith)))
 new-far s m (negsuc c) x y n b f e h = rw (le-ltb b 2147483648 (omega (arith, f .sfits)))
 
 module _ (s : Scalars) (m : Memory) (z x y : ℤ) (n b : ℕ) (f : SFits w32 z) (e : b ≡ ofZ w32 z) (h : b < 128) where
   pub new-here : getD (m .entries .marks) b 0 ≡ 1
-      → refusal PlayerNewDuplicate s (withEntries (withPlayer (m .entries) b 1 x y) m) ≡ newPlayer s m z x y n
+      → refusalStep PlayerNewDuplicate s (withEntries (withPlayer (m .entries) b 1 x y) m) ≡ newPlayer s m z x y n
   unfolding newPlayer
   new-here q =
       rw (client-is z b f e h)
       (picks-first (present (m .entries) b) _ _ (here (m .entries .marks) b h q) ∙ picks-first (ltb b 128) _ _ (lt-ltb b 128 h))
 
   pub new-away : (getD (m .entries .marks) b 0 ≡ 1 → ⊥)
-      → step (gives (playerNew z x y) n) s (withEntries (withPlayer (m .entries) b 1 x y) m) ≡ newPlayer s m z x y n
+      → stepOf (gives (playerNew z x y) n) s (withEntries (withPlayer (m .entries) b 1 x y) m) ≡ newPlayer s m z x y n
   unfolding newPlayer
   new-away q =
       rw (client-is z b f e h)
@@ -69,18 +69,18 @@ module _ (s : Scalars) (m : Memory) (z x y : ℤ) (n b : ℕ) (f : SFits w32 z) 
 -- ---- PlayerOld
 
 pub old-far : (s : Scalars) (m : Memory) (z : ℤ) (n b : ℕ) → SFits w32 z → b ≡ ofZ w32 z → 128 ≤ b
-    → refusal (noEntry b PlayerOldWithoutNew) s m ≡ oldPlayer s m z n
+    → refusalStep (noEntry b PlayerOldWithoutNew) s m ≡ oldPlayer s m z n
 unfolding oldPlayer
 old-far s m (pos c) n b f e h = rw (e, lt-ltb c 2147483648 (f .sfits)) (picks-second (present (m .entries) c) _ _ (far (m .entries .marks) c (omega arith)))
 old-far s m (negsuc c) n b f e h = rw (le-ltb b 2147483648 (omega (arith, f .sfits)))
 
 module _ (s : Scalars) (m : Memory) (z : ℤ) (n b : ℕ) (f : SFits w32 z) (e : b ≡ ofZ w32 z) (h : b < 128) where
-  pub old-away : (getD (m .entries .marks) b 0 ≡ 1 → ⊥) → refusal PlayerOldWithoutNew s m ≡ oldPlayer s m z n
+  pub old-away : (getD (m .entries .marks) b 0 ≡ 1 → ⊥) → refusalStep PlayerOldWithoutNew s m ≡ oldPlayer s m z n
   unfolding oldPlayer
   old-away q = rw (client-is z b f e h) (picks-second (present (m .entries) b) _ _ (away (m .entries .marks) b h q))
 
   pub old-here : getD (m .entries .marks) b 0 ≡ 1
-      → step (gives (playerOld z (xOf (m .entries) b) (yOf (m .entries) b)) n) s (withEntries (withPlayer (m .entries) b 0 (pos 0) (pos 0)) m)
+      → stepOf (gives (playerOld z (xOf (m .entries) b) (yOf (m .entries) b)) n) s (withEntries (withPlayer (m .entries) b 0 (pos 0) (pos 0)) m)
       ≡ oldPlayer s m z n
   unfolding oldPlayer
   old-here q = rw (client-is z b f e h) (picks-first (present (m .entries) b) _ _ (here (m .entries .marks) b h q))

@@ -1,7 +1,7 @@
 // The player records on entries that are lent. The other arrays stand in each promise as any lists: no player record touches them.
 ghost use Rattle.state.specs.State.{Memory};
 ghost use Rattle.state.specs.Reading.{playerDiff, newPlayer, oldPlayer};
-ghost use Rattle.state.specs.Inside.{OnPlayers};
+ghost use Rattle.state.specs.steps.Inside.{OnPlayers};
 use refusal::Refusal;
 use state::Event;
 use state::Outcome;

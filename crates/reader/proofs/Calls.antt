@@ -6,7 +6,7 @@ use mathlib.Core.List.{List}
 use Rattle.refusal.specs.declared.Refusal.the-variants.{BadState, Closed}
 use Rattle.item.specs.Said.{refusing}
 use Rattle.state.specs.State.{goodReader}
-use Rattle.state.specs.Reading.{Step, step, openCall, goodCall, memoryOf, readCall}
+use Rattle.state.specs.Reading.{Step, stepOf, openCall, goodCall, memoryOf, readCall}
 use Rattle.state.specs.declared.Reader.{Reader}
 use Rattle.reader.specs.Answers.{Tells}
 use Rattle.reader.specs.declared.ReadAnswer.{ReadAnswer}
@@ -17,12 +17,12 @@ pub renamed : {t u : Step} {r : ReadAnswer} → t ≡ u → Tells t r → Tells 
 renamed {t} {u} {r} e h = subst (λ (v : Step). Tells v r) e h
 
 module _ (r : Reader) (w : List ℕ) (last : Bool) where
-  pub call-bad : goodReader r ≡ false → step (refusing BadState) (r .scalars) (memoryOf (r .entries)) ≡ readCall r w last
+  pub call-bad : goodReader r ≡ false → stepOf (refusing BadState) (r .scalars) (memoryOf (r .entries)) ≡ readCall r w last
   unfolding readCall
   call-bad g = picks-second (goodReader r) _ _ g
 
   pub call-closed : goodReader r ≡ true → r .scalars .closed ≡ true
-      → step (refusing Closed) (r .scalars) (memoryOf (r .entries)) ≡ readCall r w last
+      → stepOf (refusing Closed) (r .scalars) (memoryOf (r .entries)) ≡ readCall r w last
   unfolding readCall goodCall
   call-closed g c = picks-first (r .scalars .closed) _ _ c ∙ picks-first (goodReader r) _ _ g
 

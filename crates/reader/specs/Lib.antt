@@ -1,3 +1,3 @@
 pub mod Answers
-pub mod Inside
 pub mod Wanted
+pub mod steps

@@ -3,9 +3,9 @@ ghost use mathlib.Core.Path.{_≡_};
 ghost use lib.IntN.{pos, _+ℤ_};
 ghost use Rattle.item.specs.Said.{refusing};
 ghost use Rattle.state.specs.State.{entriesWith, goodReader};
-ghost use Rattle.state.specs.Reading.{step, openCall, memoryOf};
+ghost use Rattle.state.specs.Reading.{stepOf, openCall, memoryOf};
 ghost use Rattle.reader.specs.Answers.{Tells, ReadIs};
-ghost use Rattle.reader.specs.Inside.{readAnswer};
+ghost use Rattle.reader.specs.steps.Inside.{readAnswer};
 ghost use Rattle.lookups.specs.Lookups.{posOf, inputFor};
 ghost use Rattle.reader.specs.Wanted.{WantedIs};
 use fields::Args;
@@ -75,7 +75,7 @@ pub fn is_good(reader: Reader) -> bool
 }
 
 // What a call on lent entries says, the scalars that it leaves, and what stands beside an event.
-struct Told {
+struct Heard {
     answer: Answer,
     scalars: Scalars,
     input: [i32; 10],
@@ -83,7 +83,7 @@ struct Told {
     args: Args,
 }
 
-fn answered(told: Told, entries: Entries) -> ReadAnswer
+fn answered(told: Heard, entries: Entries) -> ReadAnswer
     ensures { λ r. ⌜ r ≡ readAnswer (told .answer) (told .scalars) entries (told .input) (told .former) (told .args) ⌝ }
 {
     let answer = told.answer;
@@ -102,11 +102,11 @@ fn answered(told: Told, entries: Entries) -> ReadAnswer
 
 // A refusal that changes nothing.
 fn refused(reader: Reader, why: Refusal) -> ReadAnswer
-    ensures { λ r. ⌜ Tells (step (refusing why) (reader .scalars) (memoryOf (reader .entries))) r ⌝ }
+    ensures { λ r. ⌜ Tells (stepOf (refusing why) (reader .scalars) (memoryOf (reader .entries))) r ⌝ }
 {
     let scalars = reader.scalars;
     let entries = reader.entries;
-    let told = Told {
+    let told = Heard {
         answer: Answer::Refused(why),
         scalars,
         input: [0; 10],
@@ -126,7 +126,7 @@ fn open_told(
     inputs: &mut [i32; 1280],
     window: &[u8],
     last: bool,
-) -> Told
+) -> Heard
     ensures { λ r. ⌜ Tells (openCall s (memoryOf (entriesWith (now (marks .entry)) (now (xs .entry)) (now (ys .entry)) (now (held .entry)) (now (inputs .entry)))) (now (window .entry)) last)
         (readAnswer (r .answer) (r .scalars) (entriesWith (now (marks .exit)) (now (xs .exit)) (now (ys .exit)) (now (held .exit)) (now (inputs .exit))) (r .input) (r .former) (r .args)) ⌝ }
 {
@@ -147,7 +147,7 @@ fn open_told(
     let answer = o.answer;
     let scalars = o.scalars;
     let args = arguments::args_of(answer, s, window);
-    Told {
+    Heard {
         answer,
         scalars,
         input,

@@ -10,7 +10,7 @@ use Rattle.fields.specs.declared.Args.{Args}
 use Rattle.item.specs.Said.{Said, gives, more, finish, refuses, refusing}
 use Rattle.views.proofs.Refusals.{same-refusal}
 use Rattle.state.specs.State.{Memory, goodScalars, goodEntries, goodReader}
-use Rattle.state.specs.Reading.{Event, tickStart, tickEnd, playerNew, playerChange, playerOld, input, other, Step, step, goodCall, memoryOf, readCall, readerAfter}
+use Rattle.state.specs.Reading.{Event, tickStart, tickEnd, playerNew, playerChange, playerOld, input, other, Step, stepOf, goodCall, memoryOf, readCall, readerAfter}
 use Rattle.state.specs.Acts.{BytesRunOut, Act, ReadAct}
 use Rattle.state.specs.Acts as act
 use Rattle.state.specs.Views.{slim}
@@ -44,12 +44,12 @@ isMore (refuses k vs) = false
 -- ---- a call on a reader: on one that isn't good, on a closed one, and by an act on an open one
 
 module _ (r : Reader) (w : List ℕ) (last : Bool) where
-  on-bad : goodReader r ≡ false → readCall r w last ≡ step (refusing refusal.BadState) (r .scalars) (memoryOf (r .entries))
+  on-bad : goodReader r ≡ false → readCall r w last ≡ stepOf (refusing refusal.BadState) (r .scalars) (memoryOf (r .entries))
   unfolding readCall
   on-bad g = rw g
 
   on-closed : goodReader r ≡ true → r .scalars .closed ≡ true
-      → readCall r w last ≡ step (refusing refusal.Closed) (r .scalars) (memoryOf (r .entries))
+      → readCall r w last ≡ stepOf (refusing refusal.Closed) (r .scalars) (memoryOf (r .entries))
   unfolding readCall goodCall
   on-closed g c = rw (g, c)
 

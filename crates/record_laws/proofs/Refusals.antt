@@ -16,7 +16,7 @@ use Rattle.kinds.specs.declared.Version.{Version}
 use Rattle.kinds.specs.declared.Kind.{Kind}
 use Rattle.causes.specs.Causes.{inKind, inRest, KindRefused, unknownType, RestRefused, negativeDt, negativeNumArgs, numArgsTooLarge}
 use Rattle.causes.proofs.Theorems.{records-refused}
-use Rattle.record_laws.specs.Laws.{Cause, unexpectedEnd, inRecord, Caused, RecordRefuses, ThreeToSeven}
+use Rattle.record_laws.specs.Laws.{RecordCause, unexpectedEnd, inRecord, Caused, RecordRefuses, ThreeToSeven}
 
 caused : (v : Version) (s : List ℕ) (last : Bool) (n : ℕ) (vs : List ℤ) (x : Reading (Content Part)) → readRecord v s 0 ≡ x
     → recordSaid last x ≡ refuses n vs → Caused v s last n vs
@@ -26,7 +26,7 @@ caused v s false n vs runsOut x e = let z : _≡_ {A = ℕ} 0 1 = cc in absurd (
 caused v s last n vs (refused r) x e =
     record { refusal = r; number = cc; values = cc; cause = inRecord (records-refused v s r .0 x) }
 
-by-cause : (v : Version) (s : List ℕ) (last : Bool) {r : Refusal} → Cause v s last r → recordCall v s last ≡ refusing r
+by-cause : (v : Version) (s : List ℕ) (last : Bool) {r : Refusal} → RecordCause v s last r → recordCall v s last ≡ refusing r
 unfolding recordCall
 by-cause v s last (unexpectedEnd l x) = rw (x, l)
 by-cause v s last (inRecord {r} x) = rw (records-refused v s r .1 x)
@@ -49,7 +49,7 @@ rest-among (negativeDt i) = (omega arith, omega arith)
 rest-among (negativeNumArgs c i) = (omega arith, omega arith)
 rest-among (numArgsTooLarge c i l s) = (omega arith, omega arith)
 
-among : {v : Version} {s : List ℕ} {last : Bool} {r : Refusal} → Cause v s last r → Among r
+among : {v : Version} {s : List ℕ} {last : Bool} {r : Refusal} → RecordCause v s last r → Among r
 among (unexpectedEnd l x) = (omega arith, omega arith)
 among (inRecord (inKind k)) = kind-among k
 among (inRecord (inRest k x)) = rest-among x

@@ -60,18 +60,18 @@ WriteDetermined =
 
 -- ---- the record call refuses 3 to 7 only, each exactly for its cause
 
-pub data Cause (v : Version) (s : List ℕ) (last : Bool) : Refusal → Type 0 where
+pub data RecordCause (v : Version) (s : List ℕ) (last : Bool) : Refusal → Type 0 where
   -- 3: the bytes run out, and no more come
-  unexpectedEnd : last ≡ true → readRecord v s 0 ≡ runsOut → Cause v s last UnexpectedEnd
+  unexpectedEnd : last ≡ true → readRecord v s 0 ≡ runsOut → RecordCause v s last UnexpectedEnd
   -- 4 to 7: the kind or the rest of the record is refused
-  inRecord : {r : Refusal} → RecordRefused v s r → Cause v s last r
+  inRecord : {r : Refusal} → RecordRefused v s r → RecordCause v s last r
 
 -- the number and the values that the call says are those of a refusal that has its cause
 pub record Caused (v : Version) (s : List ℕ) (last : Bool) (n : ℕ) (vs : List ℤ) : Type 0 where
   pub refusal : Refusal
   pub number : n ≡ numberOf refusal
   pub values : vs ≡ valuesOf refusal
-  pub cause : Cause v s last refusal
+  pub cause : RecordCause v s last refusal
 
 abbrev pub RecordRefuses : Type 0
 RecordRefuses = (v : Version) (s : List ℕ) (last : Bool) (n : ℕ) (vs : List ℤ) → (recordCall v s last ≡ refuses n vs) ↔ Caused v s last n vs

@@ -10,11 +10,11 @@ use Rattle.varint.specs.declared.Wrote.{Wrote}
 use Rattle.varint.specs.declared.Wrote.the-variants.{Past}
 use Rattle.varint.proofs.Writing.{fits-answer}
 use Rattle.packer.proofs.Joined.{written-length, joined, nothing-put}
-use Rattle.record_writer.specs.Puts.{pastOf, HasRoom, Puts}
+use Rattle.record_writer.specs.steps.Puts.{pastOf, HasRoom, PutsBytes}
 
 -- what a call that wrote them tells
 pub put-past : (xs : List ℕ) (at : ℕ) (bs : List ℕ) → HasRoom xs at bs → {w : Wrote} {ys : List ℕ} {next : ℕ}
-    → w ≡ wrote xs at bs → ys ≡ written xs at bs → next ≡ pastOf w at → Puts xs at bs next ys
+    → w ≡ wrote xs at bs → ys ≡ written xs at bs → next ≡ pastOf w at → PutsBytes xs at bs next ys
 put-past xs at bs h p q r = (r ∙ ap (λ v. pastOf v at) (p ∙ sym (fits-answer xs at bs h)), q)
 
 -- what a call answers that has nothing to put
@@ -27,14 +27,14 @@ abbrev pub Rest : List ℕ → ℕ → List ℕ → List ℕ → ℕ → List �
 Rest xs at all ys next rest = (next + length rest ≡ at + length all) × ((length ys ≡ length xs) × (written ys next rest ≡ written xs at all))
 
 module _ (xs : List ℕ) (at : ℕ) (all : List ℕ) (h : HasRoom xs at all) (ys : List ℕ) (next : ℕ) where
-  pub rest-done : Rest xs at all ys next [] → Puts xs at all next ys
+  pub rest-done : Rest xs at all ys next [] → PutsBytes xs at all next ys
   rest-done r = (omega (arith, r .0), nothing-put ys next (omega (arith, r .0, r .1 .0)) ∙ r .1 .1)
 
   module _ (a b : List ℕ) (r : Rest xs at all ys next (a ++ b)) where
     pub rest-room : HasRoom ys next a
     rest-room = omega (arith, r .0, r .1 .0, length-append a b)
 
-    pub rest-step : {m : ℕ} {zs : List ℕ} → Puts ys next a m zs → Rest xs at all zs m b
+    pub rest-step : {m : ℕ} {zs : List ℕ} → PutsBytes ys next a m zs → Rest xs at all zs m b
     rest-step p =
         rw (p .0, p .1) (
           omega (arith, r .0, length-append a b),

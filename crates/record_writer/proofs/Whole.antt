@@ -14,7 +14,7 @@ use Rattle.item.specs.declared.Record.{Record}
 use Rattle.written.specs.Written.{writeContent, contentWritable, hasForm, recordBytes}
 use Rattle.written.specs.Unwritable.{recordWritable, Writes}
 use Rattle.written.proofs.Unwritable.{writable-is-form}
-use Rattle.outlines.specs.Outlines.{piecesOf, piecesOk, piecesBytes, contentOk, contentBytes, Outlines}
+use Rattle.outlines.specs.steps.Outlines.{piecesOf, piecesOk, piecesBytes, contentOk, contentBytes, Outlines}
 use Rattle.outlines.specs.declared.Outline.{Outline}
 
 -- what can't be written leaves the target, whatever its bytes

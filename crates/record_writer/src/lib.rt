@@ -4,8 +4,8 @@ ghost use Prim.Native.Nat.{_<_};
 ghost use Rattle.varint.specs.Written.{written, wrote, writtenIf, wroteIf};
 ghost use Rattle.extensions.specs.Extensions.{idAt};
 ghost use Rattle.written.specs.Unwritable.{Writes};
-ghost use Rattle.outlines.specs.Outlines.{pieceOk, pieceBytes, piecesOf, piecesOk, piecesBytes};
-ghost use Rattle.record_writer.specs.Puts.{pastOf, HasRoom, Ready, Puts, roomAt};
+ghost use Rattle.outlines.specs.steps.Outlines.{pieceOk, pieceBytes, piecesOf, piecesOk, piecesBytes};
+ghost use Rattle.record_writer.specs.steps.Puts.{pastOf, HasRoom, Ready, PutsBytes, roomAt};
 use fields::Args;
 use item::Record;
 use kinds::Version;
@@ -29,7 +29,7 @@ fn past(answer: Wrote, other: usize) -> usize
 fn put_id(k: usize, out: &mut [u8], at: usize) -> usize
     requires { ⌜ k < 20 ⌝ }
     requires { ⌜ HasRoom (now out) at (idAt k) ⌝ }
-    ensures { λ r. ⌜ Puts (now (out .entry)) at (idAt k) r (now (out .exit)) ⌝ }
+    ensures { λ r. ⌜ PutsBytes (now (out .entry)) at (idAt k) r (now (out .exit)) ⌝ }
 {
     let base = k * 16;
     let mut i = 0;
@@ -60,7 +60,7 @@ fn write_piece(s: &[u8], piece: Piece, out: &mut [u8], at: usize) -> Wrote
 // All pieces of a record, which can be written and fit: the place past them.
 fn put_pieces(o: Outline, s: &[u8], ten: [i32; 10], args: Args, out: &mut [u8], at: usize) -> usize
     requires { ⌜ Ready (piecesOk (now s) (piecesOf o ten args)) (now out) at (piecesBytes (now s) (piecesOf o ten args)) ⌝ }
-    ensures { λ r. ⌜ Puts (now (out .entry)) at (piecesBytes (now (s .entry)) (piecesOf o ten args)) r (now (out .exit)) ⌝ }
+    ensures { λ r. ⌜ PutsBytes (now (out .entry)) at (piecesBytes (now (s .entry)) (piecesOf o ten args)) r (now (out .exit)) ⌝ }
 {
     let tail = o.tail;
     let end = outlines::past_pieces(tail);

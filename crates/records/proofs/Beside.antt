@@ -10,9 +10,9 @@ use Rattle.packer.specs.declared.PartRead.the-variants as parts
 use Rattle.packer.specs.Parts.{shown, readRaw, readData}
 use Rattle.fields.specs.Fields.{dt, Value, Reading, got, runsOut, refused, readFields}
 use Rattle.fields.specs.Views.{zeros}
-use Rattle.shapes.specs.Shapes.{fieldsIn}
+use Rattle.shapes.specs.steps.Shapes.{fieldsIn}
 use Rattle.shapes.specs.declared.Shape.{Shape}
-use Rattle.extensions.specs.Extensions.{Payload, shaped, whole, payloadAt, find}
+use Rattle.extensions.specs.Extensions.{Payload, shaped, allData, payloadAt, find}
 use Rattle.extensions.specs.declared.Extension.{Extension}
 use Rattle.extensions.specs.declared.Found.{Found}
 use Rattle.extensions.specs.declared.Found.the-variants.{Known, Unknown}
@@ -25,7 +25,7 @@ use Rattle.item.specs.declared.Tag.the-variants.{Plain, Named}
 use Rattle.item.specs.declared.Item.{Item}
 use Rattle.item.specs.declared.Record.{Record}
 use Rattle.item.proofs.Lengths.{lengths}
-use Rattle.records.specs.Views.{own, itemIs, restCode, wholeOf, RestRead}
+use Rattle.records.specs.steps.Views.{own, itemIs, restCode, wholeOf, RestRead}
 use Rattle.item.specs.Contents.{ownContent}
 use Rattle.records.specs.declared.ItemRead.{ItemRead}
 use Rattle.records.specs.declared.ItemRead.the-variants as items
@@ -63,7 +63,7 @@ lone-payload : (s : List ℕ) (p : Part) (k : Extension) (l : Payload) (next : �
 lone-payload s p k (shaped fs) next =
     let x = readFields fs (take next s) (p .at) in
     lone-up next (asContent (Named k) x) (lone-as (Named k) (lone-named k) x)
-lone-payload s p k whole next = lone-named k
+lone-payload s p k allData next = lone-named k
 
 lone-found : (s : List ℕ) (id p : Part) (f : Found) (next : ℕ) → AllLone (ofFound s id p f next)
 lone-found s id p (Known k) next = lone-payload s p k (payloadAt k) next

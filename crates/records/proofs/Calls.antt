@@ -9,7 +9,7 @@ use Rattle.kinds.specs.declared.Version.{Version}
 use Rattle.kinds.specs.declared.Kind.{Kind}
 use Rattle.item.specs.declared.Item.the-variants as records
 use Rattle.item.specs.declared.Record.{Record}
-use Rattle.records.specs.Views.{alone, answerIs, tidyAnswer, saidOf, RestRead, RecordAt}
+use Rattle.records.specs.steps.Views.{alone, answerIs, tidyAnswer, saidOf, RestRead, RecordAt}
 use Rattle.records.specs.Calls.{saidBy, tidySaid, Called}
 use Rattle.records.specs.declared.RecordAnswer.{RecordAnswer}
 use Rattle.records.specs.declared.RecordAnswer.the-variants as answers

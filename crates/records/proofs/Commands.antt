@@ -28,7 +28,7 @@ use Rattle.fields.specs.Fields.{
   readFields,
 }
 use Rattle.fields.specs.Views.{zeros, argsWith}
-use Rattle.fields.specs.Reads.{argsRead, fieldParts}
+use Rattle.fields.specs.steps.Reads.{argsRead, fieldParts}
 use Rattle.fields.specs.declared.ArgsAnswer.{ArgsAnswer}
 use Rattle.fields.specs.declared.ArgsAnswer.the-variants as arguments
 use Rattle.fields.specs.declared.ArgsRead.{ArgsRead}
@@ -38,7 +38,7 @@ use Rattle.item.specs.Contents.{ownFields, recordWith}
 use Rattle.kinds.specs.declared.Kind.the-variants as kinds
 use Rattle.item.specs.declared.Item.the-variants as records
 use Rattle.item.specs.declared.Tag.the-variants.{Plain}
-use Rattle.records.specs.Views.{itemIs, own, headIs, commandRead, readIs, tidyAnswer, RestRead}
+use Rattle.records.specs.steps.Views.{itemIs, own, headIs, commandRead, readIs, tidyAnswer, RestRead}
 use Rattle.records.specs.declared.ItemRead.{ItemRead}
 use Rattle.records.specs.declared.ItemRead.the-variants as items
 use Rattle.records.specs.declared.HeadRead.{HeadRead}

@@ -11,17 +11,17 @@ use Rattle.varint.specs.declared.Remark.{Remark}
 use Rattle.varint.specs.declared.IntRead.the-variants as ints
 use Rattle.packer.specs.declared.Part.{Part}
 use Rattle.fields.specs.Fields.{Field, num, Reading, got, runsOut, refused, readFields}
-use Rattle.shapes.specs.Shapes.{fieldsIn, valuesIn, viewed}
+use Rattle.shapes.specs.steps.Shapes.{fieldsIn, valuesIn, viewed}
 use Rattle.shapes.specs.declared.Shape.{Shape}
 use Rattle.shapes.specs.declared.FieldsRead.{FieldsRead}
 use Rattle.shapes.specs.declared.FieldsRead.the-variants as read
 use Rattle.item.specs.Records.{Content, content, asContent, readEx, readRest}
 use Rattle.item.specs.Contents.{ownFields}
-use Rattle.item.specs.Taken.{fromFields}
+use Rattle.item.specs.steps.Taken.{fromFields}
 use Rattle.kinds.specs.declared.Kind.{Kind}
 use Rattle.kinds.specs.declared.Kind.the-variants as kinds
 use Rattle.item.specs.declared.Tag.the-variants.{Plain}
-use Rattle.records.specs.Views.{restCode}
+use Rattle.records.specs.steps.Views.{restCode}
 use Rattle.kinds.specs.Kinds.{inputKind}
 use Rattle.records.specs.declared.Rest.{Rest}
 use Rattle.records.specs.declared.Rest.the-variants as rests

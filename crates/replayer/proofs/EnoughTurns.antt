@@ -10,7 +10,7 @@ use Rattle.item.specs.Said.{Said, gives, more, finish, refuses}
 use Rattle.state.specs.Reading.{Event, readCall, readerAfter}
 use Rattle.state.specs.declared.Reader.{Reader}
 use Rattle.calls.specs.Calls.{isPending, along, Seen, Halt, isFull, wantsMore, finishes, isRefused, Run, seenBy, before, onSaid, calls}
-use Rattle.replayer.specs.Replay.{full, windowOf, isShort, isLast, ends}
+use Rattle.replayer.specs.Replay.{full, windowOf, isShort, isLastWindow, ends}
 use Rattle.replayer.specs.Laws.{Arrived, some, all, atHand, hasEnded, Turn, runOf, short, over, turnsEnd, haveAll, EnoughTurns}
 use Rattle.calls.proofs.Singles.{uses-within, more-leaves}
 use Rattle.calls.proofs.Ranks.{rank, rank-le, call-falls}
@@ -78,7 +78,7 @@ falls-by-events t r body o =
     let run = runOf t r body in
     let w = windowOf (atHand (t .arrived) body) in
     let p = left-after (short t body) (run .halt) (rank (r .scalars)) (length w) run o
-    (run-falls (suc (t .room)) r w (isLast (hasEnded (t .arrived)) (atHand (t .arrived) body))) in
+    (run-falls (suc (t .room)) r w (isLastWindow (hasEnded (t .arrived)) (atHand (t .arrived) body))) in
     sum-le (run .used) (length body) (rank (r .scalars)) (rank (run .reader .scalars)) (length (drop (run .used) body)) (length (run .seen))
     (omega (arith, p .1, hand-le (t .arrived) body)) (p .0) (length-drop (run .used) body)
 

@@ -18,18 +18,18 @@ use Rattle.calls.specs.Calls.{allOf}
 use Rattle.calls.specs.Laws.{TensBeside}
 use Rattle.calls.proofs.Theorems.{few-events, run-tens}
 use Rattle.rows.specs.Rows.{room, rowsFrom, tensFrom}
-use Rattle.rows.specs.Stores.{AllInRows}
+use Rattle.rows.specs.steps.Stores.{AllInRows}
 use Rattle.rows.proofs.Blocks.{all-told, rows-length, tens-length, front-rows, front-tens}
 use Rattle.row_lines.specs.Text.{textOf}
-use Rattle.row_lines.specs.RowLines.{PutsLines}
+use Rattle.row_lines.specs.steps.RowLines.{PutsLines}
 use Rattle.row_lines.proofs.Onward.{text-le}
 use Rattle.many.specs.Many.{manyCalls, haltOf, ManyIs}
 use Rattle.many.specs.declared.ManyAnswer.{ManyAnswer}
 use Rattle.many.proofs.Edges.{with-room}
 use Rattle.lines.specs.Lines.{longest, refusedWord}
-use Rattle.lines.specs.Puts.{Puts}
+use Rattle.lines.specs.steps.Puts.{PutsText}
 use Rattle.lines.proofs.Texts.{line-fits}
-use Rattle.replayer.specs.Replay.{full, windowOf, isShort, isLast, ends, endingOf, wants, runText, turnRoom, turnRun, noTurn, Turns}
+use Rattle.replayer.specs.Replay.{full, windowOf, isShort, isLastWindow, ends, endingOf, wants, runText, turnRoom, turnRun, noTurn, Turns}
 
 -- the window's end is no further than the bytes
 take-least : (l : List ℕ) (c : ℕ) → take (min (length l) c) l ≡ take c l
@@ -94,19 +94,19 @@ module _ (reader : Reader) (bytes : List ℕ) (input-ended : Bool) (rows tens : 
     text = runText (isShort bytes) run
 
     module _ (m : ManyAnswer) (rows₁ tens₁ : List ℤ) (end : ℕ) (e : end ≡ min (length bytes) full)
-        (last : Bool) (f : last ≡ isLast input-ended bytes)
+        (last : Bool) (f : last ≡ isLastWindow input-ended bytes)
         (t : ManyIs (manyCalls (room (take (8 * n) rows) (take (20 * n) tens)) reader (take end bytes) last) (take (8 * n) rows) (take (20 * n) tens) m rows₁ tens₁)
       where
         ran : ManyIs run (take (8 * n) rows) (take (20 * n) tens) m rows₁ tens₁
         ran =
             let some-room : 0 < n = omega arith in
-            rw (e, f, room-is, take-least bytes full, with-room n reader (windowOf bytes) (isLast input-ended bytes) some-room) at t
+            rw (e, f, room-is, take-least bytes full, with-room n reader (windowOf bytes) (isLastWindow input-ended bytes) some-room) at t
 
         count-le : m .count ≤ n
-        count-le = omega (arith, ran .count, few-events (allOf (isLast input-ended bytes)) n reader (windowOf bytes) .0)
+        count-le = omega (arith, ran .count, few-events (allOf (isLastWindow input-ended bytes)) n reader (windowOf bytes) .0)
 
         tens-beside : TensBeside seen
-        tens-beside = run-tens (allOf (isLast input-ended bytes)) n reader (windowOf bytes)
+        tens-beside = run-tens (allOf (isLastWindow input-ended bytes)) n reader (windowOf bytes)
 
         rows-now : rows₁ ++ drop (8 * n) rows ≡ rowsFrom 0 seen rows
         rows-now = rw (ran .rows) (front-rows seen tens-beside (8 * n) rows rows-fit (omega (arith, ran .count, count-le)))
@@ -135,7 +135,7 @@ module _ (reader : Reader) (bytes : List ℕ) (input-ended : Bool) (rows tens : 
             omega (arith, text-le (rows₁ ++ drop (8 * n) rows) (tens₁ ++ drop (20 * n) tens) 0 seen told, ran .count, count-le, lines-fit)
 
         module _ (at : ℕ) (out₁ : List ℕ) (p : PutsLines (rows₁ ++ drop (8 * n) rows) (tens₁ ++ drop (20 * n) tens) (m .count) out at out₁) where
-          lines : Puts out 0 (textOf seen) at out₁
+          lines : PutsText out 0 (textOf seen) at out₁
           lines = p seen (sym (ran .count)) (rows-enough .0) (rows-enough .1) told (omega (arith, count-le, lines-fit))
 
           pub last-fits : at + longest ≤ length out₁
@@ -143,13 +143,13 @@ module _ (reader : Reader) (bytes : List ℕ) (input-ended : Bool) (rows tens : 
               let l : length out₁ ≡ length out = ap length (lines .1) ∙ written-length out 0 (textOf seen) (omega (arith, text-fits)) in
               omega (arith, lines .0, text-fits)
 
-          module _ (filled : ℕ) (out₂ : List ℕ) (q : Puts out₁ at (endingOf (isShort bytes) (haltOf (m .stop)) (m .count)) filled out₂) where
+          module _ (filled : ℕ) (out₂ : List ℕ) (q : PutsText out₁ at (endingOf (isShort bytes) (haltOf (m .stop)) (m .count)) filled out₂) where
             all-fits : length (text) ≤ length out
             all-fits =
                 let last = endingOf (isShort bytes) (run .halt) (length seen) in
                 omega (arith, length-append (textOf seen) last, ending-le (isShort bytes) (run .halt) (length seen), text-fits)
 
-            whole : Puts out 0 (text) filled out₂
+            whole : PutsText out 0 (text) filled out₂
             whole =
                 two-puts out 0 (textOf seen) (endingOf (isShort bytes) (run .halt) (length seen)) (omega (arith, all-fits)) at out₁ lines filled out₂
                 (rw (ran .halt, ran .count) at q)

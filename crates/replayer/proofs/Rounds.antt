@@ -12,9 +12,9 @@ use Rattle.state.specs.State.{emptyReader}
 use Rattle.state.specs.Reading.{Event, readCall, readerAfter}
 use Rattle.state.specs.declared.Reader.{Reader}
 use Rattle.calls.specs.Calls.{isPending, along, Seen, Run, seenBy, before, onSaid, calls}
-use Rattle.replayer.specs.Replay.{full, windowOf, isShort, isLast, ends, wants, runText, turnRun, replayFrom}
+use Rattle.replayer.specs.Replay.{full, windowOf, isShort, isLastWindow, ends, wants, runText, turnRun, replayFrom}
 use Rattle.replayer.specs.Laws.{some, all, AllPrinted}
-use Rattle.replayer.specs.Rounds.{Input, inputAfter, roundOf, lastRound, wantsRead, roundsText, joined, RoundsPrintText}
+use Rattle.replayer.specs.Rounds.{Input, inputAfter, roundOf, lastRound, wantsRead, roundsText, allPieces, RoundsPrintText}
 use Rattle.replayer.proofs.Whole.{turn-replays, wants-more}
 use Rattle.replayer.proofs.Bound.{printed-text}
 use Rattle.calls.proofs.Ranks.{rank, rank-le}
@@ -22,7 +22,7 @@ use Rattle.replayer.proofs.EnoughTurns.{run-falls, left-after, sum-le, 
 
 -- all the bytes that are left
 abbrev bodyOf : Input → List ℕ
-bodyOf i = i .hand ++ joined (i .pieces)
+bodyOf i = i .hand ++ allPieces (i .pieces)
 
 -- no piece comes where the input has ended
 abbrev Sound : Input → Type 0
@@ -38,14 +38,14 @@ Replays n k r body bytes ended =
     ++ cond (ends (isShort bytes) (run .halt) (length (run .seen))) [] (replayFrom (suc k) (run .reader) (drop (run .used) body))
 
 by-end : (n k : ℕ) (r : Reader) (hand : List ℕ) (ended : Bool) (ps : List (List ℕ)) → (ended ≡ true → ps ≡ [])
-    → Replays n k r (hand ++ joined ps) hand ended
-unfolding joined
+    → Replays n k r (hand ++ allPieces ps) hand ended
+unfolding allPieces
 by-end n k r hand true ps s =
-    let e : hand ++ joined ps ≡ hand = ap (λ (l : List (List ℕ)). hand ++ joined l) (s refl) ∙ append-nil hand in
+    let e : hand ++ allPieces ps ≡ hand = ap (λ (l : List (List ℕ)). hand ++ allPieces l) (s refl) ∙ append-nil hand in
     subst (λ (b : List ℕ). Replays n k r b hand true) (sym e) (turn-replays (record { room = n; arrived = all }) k r hand)
 by-end n k r hand false ps s =
-    subst (λ (b : List ℕ). Replays n k r (hand ++ joined ps) b false) (take-append-seam hand (joined ps))
-    (turn-replays (record { room = n; arrived = some (length hand) }) k r (hand ++ joined ps))
+    subst (λ (b : List ℕ). Replays n k r (hand ++ allPieces ps) b false) (take-append-seam hand (allPieces ps))
+    (turn-replays (record { room = n; arrived = some (length hand) }) k r (hand ++ allPieces ps))
 
 -- a round that is not the last uses bytes at hand, and less is left for each event
 module _ (n : ℕ) (r : Reader) (i : Input) (o : lastRound i (roundOf n r i) ≡ false) where
@@ -55,26 +55,26 @@ module _ (n : ℕ) (r : Reader) (i : Input) (o : lastRound i (roundOf n r i) ≡
   left : (rank (run .reader .scalars) + length (run .seen) ≤ rank (r .scalars) + 5 * run .used) × (run .used ≤ length (windowOf (i .hand)))
   left =
       left-after (isShort (i .hand)) (run .halt) (rank (r .scalars)) (length (windowOf (i .hand))) run o
-      (run-falls (suc n) r (windowOf (i .hand)) (isLast (i .ended) (i .hand)))
+      (run-falls (suc n) r (windowOf (i .hand)) (isLastWindow (i .ended) (i .hand)))
 
   used-le : run .used ≤ length (i .hand)
   used-le = omega (arith, left .1, length-take full (i .hand))
 
-  rest-is : drop (run .used) (bodyOf i) ≡ drop (run .used) (i .hand) ++ joined (i .pieces)
-  rest-is = drop-append-le (run .used) (i .hand) (joined (i .pieces)) used-le
+  rest-is : drop (run .used) (bodyOf i) ≡ drop (run .used) (i .hand) ++ allPieces (i .pieces)
+  rest-is = drop-append-le (run .used) (i .hand) (allPieces (i .pieces)) used-le
 
   falls : M (run .reader) (drop (run .used) (bodyOf i)) + length (run .seen) ≤ M r (bodyOf i)
   falls =
       sum-le (run .used) (length (bodyOf i)) (rank (r .scalars)) (rank (run .reader .scalars)) (length (drop (run .used) (bodyOf i)))
-      (length (run .seen)) (omega (arith, used-le, length-append (i .hand) (joined (i .pieces)))) (left .0) (length-drop (run .used) (bodyOf i))
+      (length (run .seen)) (omega (arith, used-le, length-append (i .hand) (allPieces (i .pieces)))) (left .0) (length-drop (run .used) (bodyOf i))
 
 -- ---- the input after it
 
 body-after : (w : Bool) (used : ℕ) (hand : List ℕ) (ended : Bool) (ps : List (List ℕ))
-    → drop used hand ++ joined ps ≡ bodyOf (inputAfter w used (record { hand = hand; ended = ended; pieces = ps }))
-unfolding joined
+    → drop used hand ++ allPieces ps ≡ bodyOf (inputAfter w used (record { hand = hand; ended = ended; pieces = ps }))
+unfolding allPieces
 body-after true used hand ended [] = refl
-body-after true used hand ended (p ∷ ps) = sym (append-assoc (drop used hand) p (joined ps))
+body-after true used hand ended (p ∷ ps) = sym (append-assoc (drop used hand) p (allPieces ps))
 body-after false used hand ended ps = refl
 
 sound-after : (w : Bool) (used : ℕ) (hand : List ℕ) (ended : Bool) (ps : List (List ℕ)) → (ended ≡ true → ps ≡ [])
@@ -126,7 +126,7 @@ smaller true n r i o e =
 smaller false n r i o e =
     let run = roundOf n r i in
     let b = ap (M (run .reader)) (rest-is n r i o ∙ body-after false (run .used) (i .hand) (i .ended) (i .pieces)) in
-    omega (arith, falls n r i o, b, goes-on (isShort (i .hand)) n r (windowOf (i .hand)) (isLast (i .ended) (i .hand)) o e)
+    omega (arith, falls n r i o, b, goes-on (isShort (i .hand)) n r (windowOf (i .hand)) (isLastWindow (i .ended) (i .hand)) o e)
 
 -- ---- rounds one behind the other
 

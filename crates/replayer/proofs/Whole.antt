@@ -16,7 +16,7 @@ use Rattle.state.specs.declared.Reader.{Reader}
 use Rattle.calls.specs.Calls.{isPending, along, Seen, Halt, isFull, wantsMore, finishes, isRefused, Run, seenBy, before, onSaid, calls}
 use Rattle.lines.specs.Lines.{lineOf, lastLine, plainLine, refusedWord}
 use Rattle.lines.specs.declared.Ending.the-variants.{Finish, TooLong}
-use Rattle.replayer.specs.Replay.{full, windowOf, isShort, isLast, ends, endingOf, wants, turnRun, windowCall, replayFrom}
+use Rattle.replayer.specs.Replay.{full, windowOf, isShort, isLastWindow, ends, endingOf, wants, turnRun, windowCall, replayFrom}
 use Rattle.row_lines.specs.Text.{textOf}
 use Rattle.replayer.specs.Laws.{
   Arrived,
@@ -53,12 +53,12 @@ window-longer w z h =
     ap (λ (n : ℕ). take n (w ++ z)) e ∙ take-append-add w z (full - length w)
 
 same-call : (r : Reader) (w z : List ℕ) (last : Bool) → Fits last w z → NotMore (readCall r w last .said)
-    → readCall r (windowOf (w ++ z)) (isLast true (w ++ z)) ≡ readCall r w last
+    → readCall r (windowOf (w ++ z)) (isLastWindow true (w ++ z)) ≡ readCall r w last
 same-call r w z true f h =
     let e : w ++ z ≡ w = ap (λ (l : List ℕ). w ++ l) (f .0) ∙ append-nil w in
     rw (e, lt-ltb (length w) full (f .1), take-all full w (omega (arith, f .1)))
 same-call r w z false f h =
-    rw (window-longer w z f) (call-longer r w (take (full - length w) z) (isLast true (w ++ z)) h)
+    rw (window-longer w z f) (call-longer r w (take (full - length w) z) (isLastWindow true (w ++ z)) h)
 
 -- ---- one call of the program
 
@@ -70,21 +70,21 @@ printed (finish n) ten next = lastLine Finish
 printed (refuses k vs) ten next = plainLine refusedWord (pos k ∷ [])
 
 said-prints : (k : ℕ) (r : Reader) (b : List ℕ) (a : Said Event) → let run = follow windowCall k r b a in
-    let t = readCall r (windowOf b) (isLast true b) in
+    let t = readCall r (windowOf b) (isLastWindow true b) in
     textOf (run .seen) ++ endingOf false (run .halt) 0 ≡ printed a (t .memory .input) (λ n. replayFrom k (readerAfter t) (drop n b))
 unfolding replayFrom textOf
 said-prints k r b (gives e n) =
-    let t = readCall r (windowOf b) (isLast true b) in
+    let t = readCall r (windowOf b) (isLastWindow true b) in
     append-assoc (lineOf e (t .memory .input)) (textOf (along windowCall k (readerAfter t) (drop n b) .seen)) _
 said-prints k r b more = refl
 said-prints k r b (finish n) = refl
 said-prints k r b (refuses j vs) = refl
 
-one-call : (k : ℕ) (r : Reader) (b : List ℕ) (t : Step) (a : Said Event) → readCall r (windowOf b) (isLast true b) ≡ t → t .said ≡ a
+one-call : (k : ℕ) (r : Reader) (b : List ℕ) (t : Step) (a : Said Event) → readCall r (windowOf b) (isLastWindow true b) ≡ t → t .said ≡ a
     → replayFrom (suc k) r b ≡ printed a (t .memory .input) (λ n. replayFrom k (readerAfter t) (drop n b))
 unfolding replayFrom along
 one-call k r b t a e f =
-    said-prints k r b (readCall r (windowOf b) (isLast true b) .said)
+    said-prints k r b (readCall r (windowOf b) (isLastWindow true b) .said)
     ∙ ap (λ (u : Step). printed (u .said) (u .memory .input) (λ n. replayFrom k (readerAfter u) (drop n b))) e
     ∙ ap (λ (c : Said Event). printed c (t .memory .input) (λ n. replayFrom k (readerAfter t) (drop n b))) f
 
@@ -165,7 +165,7 @@ window-of (some n) body =
     rw e (take-all full (take n body) (omega (arith, length-take n body))))
 window-of all body = refl
 
-start-fits : (a : Arrived) (body : List ℕ) → Fits (isLast (hasEnded a) (atHand a body)) (take (reach a) body) (drop (reach a) body)
+start-fits : (a : Arrived) (body : List ℕ) → Fits (isLastWindow (hasEnded a) (atHand a body)) (take (reach a) body) (drop (reach a) body)
 start-fits (some n) body = omega (arith, length-take (min full n) body)
 start-fits all body =
     let l = length-take full body in
@@ -175,7 +175,7 @@ start-fits all body =
 
 -- a full window is the body's, and not the last
 full-window : (a : Arrived) (body : List ℕ) → isShort (atHand a body) ≡ false
-    → (windowOf (atHand a body) ≡ windowOf body) × ((isLast (hasEnded a) (atHand a body) ≡ false) × (isLast true body ≡ false))
+    → (windowOf (atHand a body) ≡ windowOf body) × ((isLastWindow (hasEnded a) (atHand a body) ≡ false) × (isLastWindow true body ≡ false))
 full-window (some n) body t =
     let h = ltb-false (length (take n body)) full t in
     let l = length-take n body in
@@ -220,17 +220,17 @@ turn-replays t k r body =
     let a = t .arrived in
     let run = runOf t r body in
     let whole = take-append-drop (reach a) body in
-    let p = follows (suc (t .room)) k r (take (reach a) body) (drop (reach a) body) (isLast (hasEnded a) (atHand a body)) (start-fits a body) in
+    let p = follows (suc (t .room)) k r (take (reach a) body) (drop (reach a) body) (isLastWindow (hasEnded a) (atHand a body)) (start-fits a body) in
     join (short t body) (run .halt) (length (run .seen)) (textOf (run .seen)) (replayFrom (suc k) (run .reader) (drop (run .used) body))
     (replayFrom (length (run .seen) + suc k) r body)
     (rw (whole, ← window-of a body) at p)
     (λ s h c.
     let e : length (run .seen) + suc k ≡ suc k = omega arith in
     let q = full-window a body s in
-    let m = first-more (t .room) r (windowOf (atHand a body)) (isLast (hasEnded a) (atHand a body)) h c in
-    let f : isLast (hasEnded a) (atHand a body) ≡ isLast true body = q .1 .0 ∙ sym (q .1 .1) in
+    let m = first-more (t .room) r (windowOf (atHand a body)) (isLastWindow (hasEnded a) (atHand a body)) h c in
+    let f : isLastWindow (hasEnded a) (atHand a body) ≡ isLastWindow true body = q .1 .0 ∙ sym (q .1 .1) in
     rw (e, no-text (run .seen) c)
-    (one-call k r body (readCall r (windowOf body) (isLast true body)) more refl (rw (q .0, f) at m)))
+    (one-call k r body (readCall r (windowOf body) (isLastWindow true body)) more refl (rw (q .0, f) at m)))
 
 -- ---- turns one behind the other
 
@@ -303,8 +303,8 @@ wants-more n r bytes ended e =
     let run = turnRun n r bytes ended in
     let w = wants-is (isShort bytes) (run .halt) e in
     let l = ltb-true (length bytes) full (w .0) in
-    let m = at-more n r (windowOf bytes) (isLast ended bytes) (w .1) in
-    let f = more-leaves (run .reader) (drop (run .used) (windowOf bytes)) (isLast ended bytes) m .0 in
+    let m = at-more n r (windowOf bytes) (isLastWindow ended bytes) (w .1) in
+    let f = more-leaves (run .reader) (drop (run .used) (windowOf bytes)) (isLastWindow ended bytes) m .0 in
     let e : take full bytes ≡ bytes = take-all full bytes (omega arith) in (
       not-ended ended (isShort bytes) (w .0) f,
       ap (λ (l : List ℕ). readCall (run .reader) (drop (run .used) l) false .said) (sym e)

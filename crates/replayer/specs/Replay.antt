@@ -29,8 +29,8 @@ abbrev pub isShort : List ℕ → Bool
 isShort bytes = ltb (length bytes) full
 
 -- only a shorter window can be the last, and only where the input has ended
-abbrev pub isLast : Bool → List ℕ → Bool
-isLast ended bytes = cond ended (isShort bytes) false
+abbrev pub isLastWindow : Bool → List ℕ → Bool
+isLastWindow ended bytes = cond ended (isShort bytes) false
 
 -- ---- the text
 
@@ -72,7 +72,7 @@ turnRoom rows tens out = min (room rows tens) ((length out - longest) / longest)
 
 -- the calls on the bytes at hand
 abbrev pub turnRun : ℕ → Reader → List ℕ → Bool → Run
-turnRun n reader bytes ended = calls n reader (windowOf bytes) (isLast ended bytes)
+turnRun n reader bytes ended = calls n reader (windowOf bytes) (isLastWindow ended bytes)
 
 -- where there is no room for an event
 abbrev pub noTurn : Reader → Turned
@@ -95,7 +95,7 @@ pub record Turns (bytes : List ℕ) (run : Run) (rows₀ tens₀ : List ℤ) (ou
 
 -- what each call of the program sees of the bytes left: the window at its place
 abbrev pub windowCall : List ℕ → Call
-windowCall bytes = record { window = windowOf bytes; last = isLast true bytes }
+windowCall bytes = record { window = windowOf bytes; last = isLastWindow true bytes }
 
 -- what the program prints of what is left of a body, in at most so many calls; the window of a call that answers more is full, and on it
 -- no event came

@@ -45,13 +45,13 @@ roundsText (suc k) n r i =
     runText (isShort (i .hand)) run
     ++ cond (lastRound i run) [] (roundsText k n (run .reader) (inputAfter (wantsRead i run) (run .used) i))
 
-unfoldable pub joined : List (List ℕ) → List ℕ
-joined [] = []
-joined (p ∷ ps) = p ++ joined ps
+unfoldable pub allPieces : List (List ℕ) → List ℕ
+allPieces [] = []
+allPieces (p ∷ ps) = p ++ allPieces ps
 
 -- enough rounds print the text of the body, in whatever pieces it came
 abbrev pub RoundsPrintText : Type 0
 RoundsPrintText =
-    (v : Version) (k n : ℕ) (hand : List ℕ) (pieces : List (List ℕ)) → let body = hand ++ joined pieces in
+    (v : Version) (k n : ℕ) (hand : List ℕ) (pieces : List (List ℕ)) → let body = hand ++ allPieces pieces in
     enough body + length pieces + 1 ≤ k
     → roundsText k n (emptyReader v) (record { hand = hand; ended = false; pieces = pieces }) ≡ replayText v body

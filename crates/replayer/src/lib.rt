@@ -3,7 +3,8 @@ ghost use mathlib.Core.Path.{_≡_};
 ghost use mathlib.Core.Bool.{false, cond};
 ghost use Prim.Native.Nat.{_+_, _-_, _/_, _≤_, min};
 ghost use lib.ListN.{length};
-ghost use Rattle.lines.specs.Lines.{longest, Puts};
+ghost use Rattle.lines.specs.Lines.{longest};
+ghost use Rattle.lines.specs.steps.Puts.{PutsText};
 ghost use Rattle.many.specs.Many.{haltOf};
 ghost use Rattle.replayer.specs.Replay.{endingOf, ends, tooLong, wants, turnRoom, turnRun, noTurn, Turns};
 use lines::Ending;
@@ -37,7 +38,7 @@ fn is_too_long(short: bool, count: usize) -> bool
 // The last line, if there is one: the place past it.
 fn put_ending(short: bool, stop: Stop, count: usize, out: &mut [u8], at: usize) -> usize
     requires { ⌜ at + longest ≤ length (now out) ⌝ }
-    ensures { λ r. ⌜ Puts (now (out .entry)) at (endingOf short (haltOf stop) count) r (now (out .exit)) ⌝ }
+    ensures { λ r. ⌜ PutsText (now (out .entry)) at (endingOf short (haltOf stop) count) r (now (out .exit)) ⌝ }
 {
     match stop {
         Stop::Full => at,

@@ -10,7 +10,7 @@ use Rattle.packer.specs.declared.Part.{Part}
 use Rattle.fields.specs.Fields.{Value, num, bytes, strings, Reading, got, runsOut, refused}
 use Rattle.fields.specs.Views.{numbers}
 use Rattle.item.specs.Said.{gives}
-use Rattle.extensions.specs.Extensions.{Payload, shaped, whole, extensionRow, payloadAt, hasClient, all}
+use Rattle.extensions.specs.Extensions.{Payload, shaped, allData, extensionRow, payloadAt, hasClient, all}
 use Rattle.extensions.specs.declared.Extension.{Extension}
 use Rattle.extensions.proofs.Each.{tested}
 use Rattle.item.specs.Records.{Content, readRest}
@@ -22,18 +22,18 @@ use Rattle.item.specs.declared.Tag.{Tag}
 use Rattle.item.specs.declared.Tag.the-variants.{Plain, Named, Other}
 use Rattle.kinds.specs.declared.Cid.{Cid}
 use Rattle.kinds.specs.declared.Cid.the-variants.{Of, NoCid}
-use Rattle.records.specs.Views.{own, itemIs}
+use Rattle.records.specs.steps.Views.{own, itemIs}
 use Rattle.item.specs.Contents.{ownContent}
 use Rattle.records.specs.declared.ItemRead.{ItemRead}
 use Rattle.state.specs.Sorts.{Sort, tagSort}
 use Rattle.state.specs.Sorts as sorts
 use Rattle.state.specs.State.{Memory}
-use Rattle.state.specs.Reading.{Step, step, other, raising, refusal, outOf, otherRecord, applySort, apply, withRest}
+use Rattle.state.specs.Reading.{Step, stepOf, other, raising, refusalStep, outOf, otherRecord, applySort, apply, withRest}
 use Rattle.state.specs.Views.{slimStep}
 use Rattle.state.specs.declared.Scalars.{Scalars}
 use Rattle.state.proofs.Every.{left-of, right-of}
 use Rattle.state.proofs.Places.{RestSort, rest-sort}
-use Rattle.rests.specs.Kinds.{otherSort, isOther}
+use Rattle.rests.specs.steps.Kinds.{otherSort, isOther}
 use Rattle.rests.proofs.Slim.{slim-calm, calm-refusal, calm-out}
 
 -- ---- the sorts of these records
@@ -82,12 +82,12 @@ first-more n (strings ps ∷ vs) = refl
 abbrev full : Payload → Bool
 full (shaped []) = false
 full (shaped (f ∷ fs)) = true
-full whole = true
+full allData = true
 
 first-payload : (p : Payload) → full p ≡ true → First (length (ownPayload p))
 first-payload (shaped []) e = no-other e
 first-payload (shaped (f ∷ fs)) e = first-more (length fs)
-first-payload whole e = first-more 0
+first-payload allData e = first-more 0
 
 first-named : (k : Extension) → First (length (ownPayload (payloadAt k)))
 unfolding payloadAt extensionRow all
@@ -127,17 +127,17 @@ module _ (s : Scalars) (m : Memory) where
   apply-sort (sorts.other ex) c zs n o = refl
 
   apply-other : (c : Content Part) (n : ℕ) → otherSort (tagSort (c .tag)) ≡ true
-      → step (gives (other (ownContent c)) n) (raising (cidOf (ownContent c)) s) m ≡ slimStep (apply s m c n)
+      → stepOf (gives (other (ownContent c)) n) (raising (cidOf (ownContent c)) s) m ≡ slimStep (apply s m c n)
   unfolding apply otherRecord
   apply-other c n o =
-      ap (λ (i : Cid). step (gives (other (ownContent c)) n) (raising i s) m) (cid-own c)
+      ap (λ (i : Cid). stepOf (gives (other (ownContent c)) n) (raising i s) m) (cid-own c)
       ∙ ap slimStep (sym (apply-sort (tagSort (c .tag)) c (numbers (c .values)) n o))
 
   module _ (last : Bool) where
     abbrev afterItem : Reading (Content Part) → Step
-    afterItem (got c n) = step (gives (other c) n) (raising (cidOf c) s) m
+    afterItem (got c n) = stepOf (gives (other c) n) (raising (cidOf c) s) m
     afterItem runsOut = outOf last s m
-    afterItem (refused r) = refusal r s m
+    afterItem (refused r) = refusalStep r s m
 
     other-step : (x : Reading (Content Part)) → OtherRest x → afterItem (own x) ≡ slimStep (withRest s m last x)
     other-step (got c n) o = apply-other c n o

@@ -13,11 +13,11 @@ use Rattle.varint.specs.declared.IntRead.the-variants as ints
 use Rattle.packer.specs.declared.Part.{Part}
 use Rattle.fields.specs.Fields.{Value, Reading, got, runsOut, refused, dtField, andThen, readFields}
 use Rattle.fields.specs.Views.{numbers, inputFields}
-use Rattle.fields.specs.Reads.{inputRead}
+use Rattle.fields.specs.steps.Reads.{inputRead}
 use Rattle.fields.specs.declared.InputAnswer.{InputAnswer}
 use Rattle.fields.specs.declared.InputAnswer.the-variants as inputs
 use Rattle.fields.specs.declared.InputRead.{InputRead}
-use Rattle.shapes.specs.Shapes.{fieldsIn, pairIs}
+use Rattle.shapes.specs.steps.Shapes.{fieldsIn, pairIs}
 use Rattle.shapes.specs.declared.Shape.the-variants.{IntInt}
 use Rattle.shapes.specs.declared.PairRead.{PairRead}
 use Rattle.shapes.specs.declared.PairRead.the-variants as pairs
@@ -29,10 +29,10 @@ use Rattle.kinds.specs.declared.Cid.the-variants.{Of}
 use Rattle.kinds.specs.Kinds.{inputKind}
 use Rattle.records.proofs.Inputs.{Numbers, all-numbers}
 use Rattle.state.specs.State.{Memory}
-use Rattle.state.specs.Reading.{Step, step, refusal, outOf, closing, naming, raising, playerDiff, newPlayer, oldPlayer, inputDiff, inputNew, tickSkip, first, apply, withRest}
+use Rattle.state.specs.Reading.{Step, stepOf, refusalStep, outOf, closing, naming, raising, playerDiff, newPlayer, oldPlayer, inputDiff, inputNew, tickSkip, first, apply, withRest}
 use Rattle.state.specs.Views.{slimStep}
 use Rattle.state.specs.declared.Scalars.{Scalars}
-use Rattle.rests.specs.Kinds.{pairKind}
+use Rattle.rests.specs.steps.Kinds.{pairKind}
 use Rattle.rests.proofs.Slim.{slim-calm, calm-refusal, calm-out, calm-diff, calm-new, calm-old, calm-input-diff, calm-input-new, calm-skip}
 
 module _ (s : Scalars) (m : Memory) (last : Bool) (w : List ℕ) (at : ℕ) where
@@ -69,7 +69,7 @@ module _ (s : Scalars) (m : Memory) (last : Bool) (w : List ℕ) (at : ℕ) wher
 
   -- ---- Finish
 
-  pub finish-rest : step (finish at) (closing s) m ≡ slimStep (withRest s m last (readRest kinds.Finish w at))
+  pub finish-rest : stepOf (finish at) (closing s) m ≡ slimStep (withRest s m last (readRest kinds.Finish w at))
   unfolding readRest apply
   finish-rest = refl
 
@@ -87,7 +87,7 @@ module _ (s : Scalars) (m : Memory) (last : Bool) (w : List ℕ) (at : ℕ) wher
 
   module _ (k next : ℕ) (remark : Remark) where
     pub skip-negative : readInt w at ≡ ints.Got (negsuc k) next remark
-        → refusal NegativeDt s m ≡ slimStep (withRest s m last (readRest kinds.TickSkip w at))
+        → refusalStep NegativeDt s m ≡ slimStep (withRest s m last (readRest kinds.TickSkip w at))
     skip-negative e = sym (slim-calm _ (calm-refusal NegativeDt s m)) ∙ ap skipOf (sym e) ∙ skip-rest
 
     pub skip-got : readInt w at ≡ ints.Got (pos k) next remark

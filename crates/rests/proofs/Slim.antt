@@ -9,7 +9,7 @@ use lib.IntN.{ℤ, pos, negsuc}
 use Rattle.refusal.specs.declared.Refusal.{Refusal}
 use Rattle.item.specs.Said.{Said, gives, more, finish, refuses}
 use Rattle.state.specs.State.{Memory, present, holds}
-use Rattle.state.specs.Reading.{Event, tickStart, tickEnd, playerNew, playerChange, playerOld, input, other, Step, step, refusal, outOf, nextTick, playerDiff, newPlayer, oldPlayer, inputDiff, inputNew, skipped, tickSkip}
+use Rattle.state.specs.Reading.{Event, tickStart, tickEnd, playerNew, playerChange, playerOld, input, other, Step, stepOf, refusalStep, outOf, nextTick, playerDiff, newPlayer, oldPlayer, inputDiff, inputNew, skipped, tickSkip}
 use Rattle.state.specs.Views.{slim, slimSaid, slimStep}
 use Rattle.state.specs.declared.Scalars.{Scalars}
 use Rattle.state.specs.declared.Next.{Next}
@@ -55,10 +55,10 @@ abbrev pub Calm : Step → Type 0
 Calm t = otherSaid (t .said) ≡ false
 
 pub slim-calm : (t : Step) → Calm t → slimStep t ≡ t
-slim-calm t h = ap (λ (x : Said Event). step x (t .scalars) (t .memory)) (slim-said (t .said) h)
+slim-calm t h = ap (λ (x : Said Event). stepOf x (t .scalars) (t .memory)) (slim-said (t .said) h)
 
-pub calm-refusal : (r : Refusal) (s : Scalars) (m : Memory) → Calm (refusal r s m)
-unfolding refusal
+pub calm-refusal : (r : Refusal) (s : Scalars) (m : Memory) → Calm (refusalStep r s m)
+unfolding refusalStep
 calm-refusal r s m = refl
 
 pub calm-out : (last : Bool) (s : Scalars) (m : Memory) → Calm (outOf last s m)

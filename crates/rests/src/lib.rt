@@ -5,10 +5,10 @@ ghost use Rattle.item.specs.Records.{readRest};
 ghost use Rattle.item.specs.Said.{finish};
 ghost use Rattle.kinds.specs.Kinds.{inputKind};
 ghost use Rattle.state.specs.State.{Memory, memory};
-ghost use Rattle.state.specs.Reading.{step, closing, withRest};
+ghost use Rattle.state.specs.Reading.{stepOf, closing, withRest};
 ghost use Rattle.state.specs.Views.{done, slimStep};
-ghost use Rattle.state.specs.Inside.{OnPlayers, OnInputs};
-ghost use Rattle.rests.specs.Kinds.{pairKind, isOther};
+ghost use Rattle.state.specs.steps.Inside.{OnPlayers, OnInputs};
+ghost use Rattle.rests.specs.steps.Kinds.{pairKind, isOther};
 use fields::InputAnswer;
 use kinds::Cid;
 use kinds::Kind;
@@ -111,7 +111,7 @@ fn with_other(s: Scalars, kind: Kind, w: &[u8], at: usize, last: bool) -> Outcom
 }
 
 fn finished(s: Scalars, used: usize) -> Outcome
-    ensures { λ r. ⌜ ((m : Memory) → done r m ≡ step (finish used) (closing s) m) ⌝ }
+    ensures { λ r. ⌜ ((m : Memory) → done r m ≡ stepOf (finish used) (closing s) m) ⌝ }
 {
     let scalars = state::closed(s);
     Outcome {

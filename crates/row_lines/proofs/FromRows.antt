@@ -16,7 +16,7 @@ use Rattle.kinds.specs.declared.Cid.{Cid}
 use Rattle.kinds.specs.declared.Cid.the-variants.{Of, NoCid}
 use Rattle.state.specs.Reading.{Event, tickStart, tickEnd, playerNew, playerChange, playerOld, input, other}
 use Rattle.calls.specs.Calls.{Seen}
-use Rattle.rows.specs.Rows.{hasClient, clientOr0, eventRow, rowOf, eventTens, tensOf}
+use Rattle.rows.specs.Rows.{clientFlag, clientOr0, eventRow, rowOf, eventTens, tensOf}
 use Rattle.lines.specs.Lines.{
   startWord,
   endWord,
@@ -30,10 +30,10 @@ use Rattle.lines.specs.Lines.{
   lineOf,
   longest,
 }
-use Rattle.lines.specs.Puts.{Puts}
+use Rattle.lines.specs.steps.Puts.{PutsText}
 use Rattle.lines.proofs.Texts.{same-text}
-use Rattle.rows.specs.Stores.{InRow}
-use Rattle.row_lines.specs.RowLines.{Tries, TriesPlain, cidTold, clientAnd, recordTold}
+use Rattle.rows.specs.steps.Stores.{InRow}
+use Rattle.row_lines.specs.steps.RowLines.{Tries, TriesPlain, cidTold, clientAnd, recordTold}
 
 -- ---- the client of which two numbers tell
 
@@ -44,7 +44,7 @@ pub told-none : (h c : ℤ) → (ofZ w32 h ≡ 1 → ⊥) → NoCid ≡ cidTold 
 told-none (pos n) c f = let t = ne-eqb n 1 f in simp t
 told-none (negsuc n) c f = refl
 
-told-back : (c : Cid) → cidTold (hasClient c) (clientOr0 c) ≡ c
+told-back : (c : Cid) → cidTold (clientFlag c) (clientOr0 c) ≡ c
 told-back (Of z) = refl
 told-back NoCid = refl
 
@@ -90,7 +90,7 @@ record-row (other r) n p ten u = ap (recordLine (tagNumber (r .tag))) (told-back
 -- ---- where there is room, a line is put
 
 pub puts-of : (most : ℕ) (xs : List ℕ) (at : ℕ) (line : List ℕ) (next : ℕ) (ys : List ℕ) → at + most ≤ length xs
-    → Tries most xs at line next ys → Puts xs at line next ys
+    → Tries most xs at line next ys → PutsText xs at line next ys
 puts-of most xs at line next ys h p = let t = le-leb (at + most) (length xs) h in rw t at p
 
 -- the ten numbers of an input
@@ -138,7 +138,7 @@ module _ (x : Seen) (i : ℕ) (rows tens : List ℤ) (t : InRow x i rows tens) w
         → ofZ w32 (getD rows (8 * i) (pos 0)) ≡ k → k ≤ 6
         → lineBy k (rowOf x) (x .ten) ≡ plainLine word (take n (drop 2 (rowOf x)))
         → TriesPlain word (take (to - (8 * i + 2)) (drop (8 * i + 2) rows)) xs at next ys
-        → Puts xs at (lineOf (x .event) (x .ten)) next ys
+        → PutsText xs at (lineOf (x .event) (x .ten)) next ys
     plain-put word n k to e h small b j f p =
         let ns = take n (drop (8 * i + 2) rows) in
         let l = length-take n (drop (8 * i + 2) rows) in
@@ -148,7 +148,7 @@ module _ (x : Seen) (i : ℕ) (rows tens : List ℤ) (t : InRow x i rows tens) w
 
     pub input-put : ofZ w32 (getD rows (8 * i) (pos 0)) ≡ 6
         → TriesPlain inputWord (clientAnd rows (8 * i + 2) tens (20 * i)) xs at next ys
-        → Puts xs at (lineOf (x .event) (x .ten)) next ys
+        → PutsText xs at (lineOf (x .event) (x .ten)) next ys
     unfolding rowOf tensOf lineBy
     input-put b p =
         let ns = clientAnd rows (8 * i + 2) tens (20 * i) in
@@ -161,7 +161,7 @@ module _ (x : Seen) (i : ℕ) (rows tens : List ℤ) (t : InRow x i rows tens) w
         same-text xs at _ _ g next ys (puts-of (plainMost inputWord ns) xs at (plainLine inputWord ns) next ys (omega arith) p)
 
     pub record-put : Unlike (ofZ w32 (getD rows (8 * i) (pos 0)))
-        → Tries longest xs at (recordTold rows (8 * i + 2)) next ys → Puts xs at (lineOf (x .event) (x .ten)) next ys
+        → Tries longest xs at (recordTold rows (8 * i + 2)) next ys → PutsText xs at (lineOf (x .event) (x .ten)) next ys
     unfolding rowOf
     record-put u p =
         let three : 8 * i + 2 + 1 ≡ 8 * i + 3 = omega arith in

@@ -9,12 +9,12 @@ use lib.IntN.{ℤ}
 use Rattle.varint.specs.Written.{written}
 use Rattle.packer.proofs.Joined.{joined, nothing-put}
 use Rattle.calls.specs.Calls.{Seen}
-use Rattle.lines.specs.Puts.{Puts}
+use Rattle.lines.specs.steps.Puts.{PutsText}
 use Rattle.lines.specs.Lines.{lineOf, longest}
 use Rattle.lines.proofs.Texts.{line-le}
 use Rattle.row_lines.specs.Text.{textOf}
-use Rattle.rows.specs.Stores.{AllInRows}
-use Rattle.row_lines.specs.RowLines.{PutsLine}
+use Rattle.rows.specs.steps.Stores.{AllInRows}
+use Rattle.row_lines.specs.steps.RowLines.{PutsLine}
 
 abbrev pub lineIs : Seen → List ℕ
 lineIs x = lineOf (x .event) (x .ten)
@@ -72,10 +72,10 @@ module _ (rows tens : List ℤ) where
   module _ (xs : List Seen) (count : ℕ) (out₀ : List ℕ) (i at : ℕ) (out : List ℕ) (h : longest * count ≤ length out₀)
       (same : length out ≡ length out₀) (over : count ≤ i) where
     none-more : (ys : List Seen) → i + length ys ≡ count → at ≤ longest * i → at + length (textOf ys) ≡ length (textOf xs)
-        → written out at (textOf ys) ≡ written out₀ 0 (textOf xs) → Puts out₀ 0 (textOf xs) at out
+        → written out at (textOf ys) ≡ written out₀ 0 (textOf xs) → PutsText out₀ 0 (textOf xs) at out
     unfolding textOf
     none-more [] s n p b = (omega arith, nothing-put out at (omega arith) ∙ b)
     none-more (y ∷ ys) s n p b = absurd (omega arith)
 
-    pub done : Left xs count out₀ i at out → Puts out₀ 0 (textOf xs) at out
+    pub done : Left xs count out₀ i at out → PutsText out₀ 0 (textOf xs) at out
     done l = none-more (l .ys) (l .size) (l .near) (l .place) (l .bytes)

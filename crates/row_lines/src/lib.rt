@@ -3,7 +3,7 @@ ghost use mathlib.Core.Path.{_≡_};
 ghost use Prim.Native.Nat.{_+_, _*_, _-_, _≤_};
 ghost use lib.ListN.{length, take, drop};
 ghost use Rattle.lines.specs.Lines.{inputWord, longest};
-ghost use Rattle.row_lines.specs.RowLines.{pastOr, Tries, TriesPlain, cidTold, clientAnd, recordTold, PutsLine, PutsLines};
+ghost use Rattle.row_lines.specs.steps.RowLines.{pastOr, Tries, TriesPlain, cidTold, clientAnd, recordTold, PutsLine, PutsLines};
 use kinds::Cid;
 use varint::Wrote;
 

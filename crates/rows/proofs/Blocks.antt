@@ -10,7 +10,7 @@ use Rattle.state.specs.Reading.{Event, tickStart, tickEnd, playerNew, playerCha
 use Rattle.calls.specs.Calls.{Seen}
 use Rattle.calls.specs.Laws.{TensBeside}
 use Rattle.rows.specs.Rows.{eventRow, rowOf, eventTens, tensOf, put, rowsFrom, tensFrom}
-use Rattle.rows.specs.Stores.{AllInRows}
+use Rattle.rows.specs.steps.Stores.{AllInRows}
 use Rattle.rows.proofs.Puts.{put-length}
 
 drop-take : (a b : ℕ) (l : List ℤ) → drop a (take (a + b) l) ≡ take b (drop a l)

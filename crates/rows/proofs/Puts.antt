@@ -10,7 +10,7 @@ use lib.IntN.{ℤ}
 use borrow.Author.Tests.{lt-ltb, le-ltb}
 use Rattle.num.proofs.Cases.{by-bool}
 use Rattle.rows.specs.Rows.{put}
-use Rattle.rows.specs.Stores.{place}
+use Rattle.rows.specs.steps.Stores.{place}
 
 pub put-length : (l : List ℤ) (at : ℕ) (ns : List ℤ) → at + length ns ≤ length l → length (put l at ns) ≡ length l
 unfolding put

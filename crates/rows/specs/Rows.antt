@@ -17,9 +17,9 @@ abbrev pub flag : Bool → ℤ
 flag true = pos 1
 flag false = pos 0
 
-abbrev pub hasClient : Cid → ℤ
-hasClient (Of c) = pos 1
-hasClient NoCid = pos 0
+abbrev pub clientFlag : Cid → ℤ
+clientFlag (Of c) = pos 1
+clientFlag NoCid = pos 0
 
 abbrev pub clientOr0 : Cid → ℤ
 clientOr0 (Of c) = c
@@ -37,7 +37,7 @@ eventRow (playerNew c x y) n p = eight 3 n c x y (pos 0) (pos 0)
 eventRow (playerChange c x y old-x old-y) n p = eight 4 n c x y old-x old-y
 eventRow (playerOld c x y) n p = eight 5 n c x y (pos 0) (pos 0)
 eventRow (input c former) n p = eight 6 n c (flag former) (pos 0) (pos 0) (pos 0)
-eventRow (other r) n p = eight 7 n (tagNumber (r .tag)) (hasClient (cidOf r)) (clientOr0 (cidOf r)) p (pos 0)
+eventRow (other r) n p = eight 7 n (tagNumber (r .tag)) (clientFlag (cidOf r)) (clientOr0 (cidOf r)) p (pos 0)
 
 unfoldable pub rowOf : Seen → List ℤ
 rowOf x = eventRow (x .event) (wrap32 (pos (x .used))) (flag (x .pending))

@@ -10,7 +10,7 @@ ghost use Rattle.state.specs.Reading.{other};
 ghost use Rattle.state.specs.Views.{eventIs};
 ghost use Rattle.calls.specs.Calls.{isPending};
 ghost use Rattle.rows.specs.Rows.{flag, eventRow, put};
-ghost use Rattle.rows.specs.Stores.{place, EventPut};
+ghost use Rattle.rows.specs.steps.Stores.{place, EventPut};
 use item::Item;
 use kinds::Cid;
 use state::Event;

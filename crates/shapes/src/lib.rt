@@ -3,7 +3,7 @@ ghost use mathlib.Core.Path.{_≡_};
 ghost use Rattle.fields.specs.Fields.{readFields};
 ghost use mathlib.Core.Bool.{false};
 ghost use Rattle.varint.specs.Integers.{readInt};
-ghost use Rattle.shapes.specs.Shapes.{fieldsIn, pairIs, isNothing, numbersRead, textRead, secondRead, Rest, Read};
+ghost use Rattle.shapes.specs.steps.Shapes.{fieldsIn, pairIs, isNothing, numbersRead, textRead, secondRead, ShowsRest, Read};
 use packer::Part;
 use packer::PartRead;
 use varint::IntRead;
@@ -141,7 +141,7 @@ fn is_nothing(shape: Shape) -> bool
 // What follows the first number.
 fn read_rest(shape: Shape, first: i32, s: &[u8], at: usize) -> FieldsRead
     requires { ⌜ isNothing shape ≡ false ⌝ }
-    ensures { λ r. ⌜ Rest shape first (now (s .entry)) at r ⌝ }
+    ensures { λ r. ⌜ ShowsRest shape first (now (s .entry)) at r ⌝ }
 {
     match shape {
         Shape::Nothing => FieldsRead::RunsOut,

@@ -16,8 +16,8 @@ use Rattle.packer.specs.declared.PartRead.the-variants as parts
 use Rattle.packer.proofs.Parts.{data-taken}
 use Rattle.fields.specs.Fields.{Field, Value, Reading, got, runsOut, refused, readFields}
 use Rattle.fields.proofs.AllTaken.{fields-taken}
-use Rattle.kinds.specs.Kinds.{withClient, extension, kindOf, afterNumber, readKind}
-use Rattle.extensions.specs.Extensions.{Payload, shaped, whole, find, payloadAt}
+use Rattle.kinds.specs.Kinds.{withClient, extensionKind, kindOf, afterNumber, readKind}
+use Rattle.extensions.specs.Extensions.{Payload, shaped, allData, find, payloadAt}
 use Rattle.extensions.specs.declared.Extension.{Extension}
 use Rattle.extensions.specs.declared.Found.{Found}
 use Rattle.extensions.specs.declared.Found.the-variants.{Known, Unknown}
@@ -61,7 +61,7 @@ module _ (v : Version) (w : List ℕ) (at : ℕ) (h : at ≤ length w) where
   client-read f g (ints.Got c next remark) e = (int-within w at c next remark h e, g c)
   client-read f g ints.RunsOut e = tt
 
-extension-read : (v : Version) (l n : ℕ) → n ≤ l → kindRead v l (extension v n)
+extension-read : (v : Version) (l n : ℕ) → n ≤ l → kindRead v l (extensionKind v n)
 extension-read V1 l n h = tt
 extension-read V2 l n h = (h, refl)
 
@@ -124,7 +124,7 @@ upto-sort k next (refused r) = tt
 
 payload-sort : (w : List ℕ) (p : Part) (k : Extension) (y : Payload) (next : ℕ) → RestSort kinds.Ex (ofPayload w p k y next)
 payload-sort w p k (shaped fs) next = upto-sort k next (readFields fs (take next w) (p .at))
-payload-sort w p k whole next = refl
+payload-sort w p k allData next = refl
 
 found-sort : (w : List ℕ) (id p : Part) (f : Found) (next : ℕ) → RestSort kinds.Ex (ofFound w id p f next)
 found-sort w id p (Known k) next = payload-sort w p k (payloadAt k) next
@@ -179,7 +179,7 @@ upto-in l k next (refused r) h = tt
 
 payload-in : (w : List ℕ) (p : Part) (k : Extension) (y : Payload) (next : ℕ) → next ≤ length w → RestIn (length w) (ofPayload w p k y next)
 payload-in w p k (shaped fs) next h = upto-in (length w) k next (readFields fs (take next w) (p .at)) h
-payload-in w p k whole next h = h
+payload-in w p k allData next h = h
 
 found-in : (w : List ℕ) (id p : Part) (f : Found) (next : ℕ) → next ≤ length w → RestIn (length w) (ofFound w id p f next)
 found-in w id p (Known k) next h = payload-in w p k (payloadAt k) next h

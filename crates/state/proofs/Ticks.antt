@@ -12,7 +12,7 @@ use mir.Facts.{toZ-pos}
 use Rattle.item.specs.Said.{gives}
 use Rattle.kinds.specs.declared.Cid.the-variants.{Of, NoCid}
 use Rattle.state.specs.State.{Memory}
-use Rattle.state.specs.Reading.{tickStart, tickEnd, step, skipping, nextTick, skipped, endsAt, playerRule}
+use Rattle.state.specs.Reading.{tickStart, tickEnd, stepOf, skipping, nextTick, skipped, endsAt, playerRule}
 use Rattle.state.specs.declared.Scalars.{Scalars}
 use Rattle.state.specs.declared.Rule.the-variants.{Reads, Starts}
 use Rattle.state.specs.declared.Next.the-variants.{Tick, Past}
@@ -68,8 +68,8 @@ module _ (s : Scalars) (c : ℤ) where
 -- ---- a skip
 
 module _ (s : Scalars) (m : Memory) (n : ℕ) (t : ℤ) where
-  pub skip-inside : s .inside ≡ true → step (gives (tickEnd (s .tick)) n) (skipping t false s) m ≡ skipped s m n (Tick t)
+  pub skip-inside : s .inside ≡ true → stepOf (gives (tickEnd (s .tick)) n) (skipping t false s) m ≡ skipped s m n (Tick t)
   skip-inside e = picks-first (s .inside) _ _ e
 
-  pub skip-outside : s .inside ≡ false → step (gives (tickStart t) n) (skipping t true s) m ≡ skipped s m n (Tick t)
+  pub skip-outside : s .inside ≡ false → stepOf (gives (tickStart t) n) (skipping t true s) m ≡ skipped s m n (Tick t)
   skip-outside e = picks-second (s .inside) _ _ e

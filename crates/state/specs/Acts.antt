@@ -44,7 +44,7 @@ use Rattle.state.specs.Reading.{
   input,
   other,
   Step,
-  step,
+  stepOf,
   closing,
   raising,
   naming,
@@ -70,7 +70,7 @@ use Rattle.state.specs.declared.Next.the-variants.{Tick, Past}
 -- ---- what a call says and leaves, whatever ten numbers and former ten stood in the memory
 
 abbrev pub says : Said Event → Scalars → Entries → Memory → Step
-says x t e m = step x t (withEntries e m)
+says x t e m = stepOf x t (withEntries e m)
 
 abbrev pub refuses : Refusal → Scalars → Entries → Memory → Step
 refuses r t e m = says (refusing r) (closing t) e m
@@ -78,7 +78,7 @@ refuses r t e m = says (refusing r) (closing t) e m
 -- client c's ten numbers become ns; had: it had some before
 abbrev pub saysInput : ℕ → Bool → List ℤ → ℕ → Scalars → Entries → Memory → Step
 saysInput c had ns n t e m =
-    step (gives (input (pos c) had) n) t (record { entries = withInput e c 1 ns; input = ns; former = tenOf (e .inputs) c })
+    stepOf (gives (input (pos c) had) n) t (record { entries = withInput e c 1 ns; input = ns; former = tenOf (e .inputs) c })
 
 -- ---- what was read
 
@@ -227,8 +227,8 @@ pub data Act (s : Scalars) (e : Entries) (w : List ℕ) (last : Bool) : (Memory 
 -- ---- a call on any reader: on one that is not good, or closed, nothing is read
 
 pub data ReadAct (r : Reader) (w : List ℕ) (last : Bool) : Step → Type 0 where
-  onBad : goodReader r ≡ false → ReadAct r w last (step (refusing BadState) (r .scalars) (memoryOf (r .entries)))
-  onClosed : goodReader r ≡ true → r .scalars .closed ≡ true → ReadAct r w last (step (refusing Closed) (r .scalars) (memoryOf (r .entries)))
+  onBad : goodReader r ≡ false → ReadAct r w last (stepOf (refusing BadState) (r .scalars) (memoryOf (r .entries)))
+  onClosed : goodReader r ≡ true → r .scalars .closed ≡ true → ReadAct r w last (stepOf (refusing Closed) (r .scalars) (memoryOf (r .entries)))
   onOpen : {f : Memory → Step} → goodReader r ≡ true → r .scalars .closed ≡ false → Act (r .scalars) (r .entries) w last f
       → ReadAct r w last (f (memoryOf (r .entries)))
 

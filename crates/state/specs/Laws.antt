@@ -59,11 +59,11 @@ Ticked (other c) s t = InTick s t
 
 -- by what it says: more only where the flag is off, and it changes nothing; finish and every refusal close the reader; finish, and
 -- every refusal but 13, leave the entries and the ten numbers
-abbrev pub Told : Said Event → Scalars → Memory → Bool → Step → Type 0
-Told (gives e used) s m last t = Ticked e s (t .scalars)
-Told more s m last t = (last ≡ false) × ((t .scalars ≡ s) × (t .memory ≡ m))
-Told (finish used) s m last t = (t .scalars .closed ≡ true) × (t .memory ≡ m)
-Told (refuses k vs) s m last t = (t .scalars .closed ≡ true) × ((k ≡ 13 → ⊥) → t .memory ≡ m)
+abbrev pub SaidLeaves : Said Event → Scalars → Memory → Bool → Step → Type 0
+SaidLeaves (gives e used) s m last t = Ticked e s (t .scalars)
+SaidLeaves more s m last t = (last ≡ false) × ((t .scalars ≡ s) × (t .memory ≡ m))
+SaidLeaves (finish used) s m last t = (t .scalars .closed ≡ true) × (t .memory ≡ m)
+SaidLeaves (refuses k vs) s m last t = (t .scalars .closed ≡ true) × ((k ≡ 13 → ⊥) → t .memory ≡ m)
 
 abbrev pub usedIn : Said Event → ℕ
 usedIn (gives e used) = used
@@ -74,7 +74,7 @@ usedIn (refuses k vs) = 0
 -- it uses at most the window; good scalars stay good; the arrays keep their lengths, and good entries stay good
 pub record Keeps (s : Scalars) (m : Memory) (w : List ℕ) (last : Bool) (t : Step) : Type 0 where
   pub within : usedIn (t .said) ≤ length w
-  pub told : Told (t .said) s m last t
+  pub told : SaidLeaves (t .said) s m last t
   pub scalars : goodScalars s ≡ true → goodScalars (t .scalars) ≡ true
   pub sizes : Sizes (m .entries) → Sizes (t .memory .entries)
   pub entries : Sizes (m .entries) → goodEntries (m .entries) ≡ true → goodEntries (t .memory .entries) ≡ true

@@ -76,8 +76,8 @@ pub record Step : Type 0 where
   pub scalars : Scalars
   pub memory : Memory
 
-abbrev pub step : Said Event → Scalars → Memory → Step
-step a s m = record { said = a; scalars = s; memory = m }
+abbrev pub stepOf : Said Event → Scalars → Memory → Step
+stepOf a s m = record { said = a; scalars = s; memory = m }
 
 -- ---- the scalars
 
@@ -116,13 +116,13 @@ ending t p k s = ticking t false p (Is k) s
 unfoldable pub skipping : ℤ → Bool → Scalars → Scalars
 skipping t i s = ticking t i (s .remembered) NoKind s
 
-unfoldable pub refusal : Refusal → Scalars → Memory → Step
-refusal r s m = step (refusing r) (closing s) m
+unfoldable pub refusalStep : Refusal → Scalars → Memory → Step
+refusalStep r s m = stepOf (refusing r) (closing s) m
 
 -- more changes nothing
 unfoldable pub outOf : Bool → Scalars → Memory → Step
-outOf true s m = refusal UnexpectedEnd s m
-outOf false s m = step more s m
+outOf true s m = refusalStep UnexpectedEnd s m
+outOf false s m = stepOf more s m
 
 -- k + 1 ticks on, unless that passes 2147483647; a tick below 0 is no good reader's
 unfoldable pub nextTick : ℤ → ℕ → Next
@@ -132,33 +132,33 @@ nextTick (negsuc t) k = Past
 -- ---- a record on a reader; n bytes are used
 
 unfoldable pub playerDiff : Scalars → Memory → ℤ → ℤ → ℤ → ℕ → Step
-playerDiff s m (negsuc c) dx dy n = refusal PlayerDiffWithoutNew s m
+playerDiff s m (negsuc c) dx dy n = refusalStep PlayerDiffWithoutNew s m
 playerDiff s m (pos c) dx dy n =
     let e = m .entries in
     let x = wrap32 (xOf e c +ℤ dx) in
     let y = wrap32 (yOf e c +ℤ dy) in
     cond (present e c)
-    (step (gives (playerChange (pos c) x y (xOf e c) (yOf e c)) n) s (withEntries (moved e c x y) m))
-    (refusal PlayerDiffWithoutNew s m)
+    (stepOf (gives (playerChange (pos c) x y (xOf e c) (yOf e c)) n) s (withEntries (moved e c x y) m))
+    (refusalStep PlayerDiffWithoutNew s m)
 
 -- 13 overwrites the position first
 unfoldable pub newPlayer : Scalars → Memory → ℤ → ℤ → ℤ → ℕ → Step
-newPlayer s m (negsuc c) x y n = refusal InvalidClientId s m
+newPlayer s m (negsuc c) x y n = refusalStep InvalidClientId s m
 newPlayer s m (pos c) x y n =
     let placed = withEntries (withPlayer (m .entries) c 1 x y) m in
     cond (ltb c 128)
     (cond (present (m .entries) c)
-    (refusal PlayerNewDuplicate s placed)
-    (step (gives (playerNew (pos c) x y) n) s placed))
-    (refusal ClientTooLarge s m)
+    (refusalStep PlayerNewDuplicate s placed)
+    (stepOf (gives (playerNew (pos c) x y) n) s placed))
+    (refusalStep ClientTooLarge s m)
 
 unfoldable pub oldPlayer : Scalars → Memory → ℤ → ℕ → Step
-oldPlayer s m (negsuc c) n = refusal InvalidClientId s m
+oldPlayer s m (negsuc c) n = refusalStep InvalidClientId s m
 oldPlayer s m (pos c) n =
     let e = m .entries in
     cond (present e c)
-    (step (gives (playerOld (pos c) (xOf e c) (yOf e c)) n) s (withEntries (withPlayer e c 0 (pos 0) (pos 0)) m))
-    (refusal PlayerOldWithoutNew s m)
+    (stepOf (gives (playerOld (pos c) (xOf e c) (yOf e c)) n) s (withEntries (withPlayer e c 0 (pos 0) (pos 0)) m))
+    (refusalStep PlayerOldWithoutNew s m)
 
 -- the sums of ten numbers and ten differences, with wrap at 32 bits
 unfoldable pub sums : List ℤ → List ℤ → List ℤ
@@ -170,26 +170,26 @@ changed m c ns =
     record { entries = withInput (m .entries) c 1 ns; input = ns; former = tenOf (m .entries .inputs) c }
 
 unfoldable pub inputDiff : Scalars → Memory → ℤ → List ℤ → ℕ → Step
-inputDiff s m (negsuc c) ds n = refusal InvalidClientId s m
+inputDiff s m (negsuc c) ds n = refusalStep InvalidClientId s m
 inputDiff s m (pos c) ds n =
     cond (holds (m .entries) c)
-    (step (gives (input (pos c) true) n) s (changed m c (sums (tenOf (m .entries .inputs) c) ds)))
-    (refusal InputDiffWithoutNew s m)
+    (stepOf (gives (input (pos c) true) n) s (changed m c (sums (tenOf (m .entries .inputs) c) ds)))
+    (refusalStep InputDiffWithoutNew s m)
 
 unfoldable pub inputNew : Scalars → Memory → ℤ → List ℤ → ℕ → Step
-inputNew s m (negsuc c) ns n = refusal InvalidClientId s m
+inputNew s m (negsuc c) ns n = refusalStep InvalidClientId s m
 inputNew s m (pos c) ns n =
     cond (ltb c 128)
-    (step (gives (input (pos c) (holds (m .entries) c)) n) s (changed m c ns))
-    (refusal ClientTooLarge s m)
+    (stepOf (gives (input (pos c) (holds (m .entries) c)) n) s (changed m c ns))
+    (refusalStep ClientTooLarge s m)
 
 -- inside, the old tick ends; outside, the new one starts
 abbrev pub skipped : Scalars → Memory → ℕ → Next → Step
 skipped s m n (Tick t) =
     cond (s .inside)
-    (step (gives (tickEnd (s .tick)) n) (skipping t false s) m)
-    (step (gives (tickStart t) n) (skipping t true s) m)
-skipped s m n Past = refusal TickOverflow s m
+    (stepOf (gives (tickEnd (s .tick)) n) (skipping t false s) m)
+    (stepOf (gives (tickStart t) n) (skipping t true s) m)
+skipped s m n Past = refusalStep TickOverflow s m
 
 abbrev pub dtOf : ℤ → ℕ
 dtOf (pos k) = k
@@ -199,7 +199,7 @@ unfoldable pub tickSkip : Scalars → Memory → ℕ → ℕ → Step
 tickSkip s m dt n = skipped s m n (nextTick (s .tick) dt)
 
 unfoldable pub otherRecord : Scalars → Memory → Content Part → ℕ → Step
-otherRecord s m c n = step (gives (other c) n) (raising (cidOf c) s) m
+otherRecord s m c n = stepOf (gives (other c) n) (raising (cidOf c) s) m
 
 abbrev pub first : List ℤ → ℤ
 first zs = getD zs 0 (pos 0)
@@ -215,7 +215,7 @@ applySort (sorts.player sorts.leaves cid) s m c zs n = oldPlayer (naming cid s) 
 applySort (sorts.input true) s m c zs n = inputNew (raising (Of (first zs)) s) m (first zs) (drop 1 zs) n
 applySort (sorts.input false) s m c zs n = inputDiff (raising (Of (first zs)) s) m (first zs) (drop 1 zs) n
 applySort sorts.skip s m c zs n = tickSkip s m (dtOf (first zs)) n
-applySort sorts.finish s m c zs n = step (finish n) (closing s) m
+applySort sorts.finish s m c zs n = stepOf (finish n) (closing s) m
 applySort (sorts.other ex) s m c zs n = otherRecord s m c n
 
 unfoldable pub apply : Scalars → Memory → Content Part → ℕ → Step
@@ -258,19 +258,19 @@ tickRule s k = sortRule s (sortOf k)
 abbrev pub withRest : Scalars → Memory → Bool → Reading (Content Part) → Step
 withRest s m last (got c n) = apply s m c n
 withRest s m last runsOut = outOf last s m
-withRest s m last (refused r) = refusal r s m
+withRest s m last (refused r) = refusalStep r s m
 
 abbrev pub withRule : Scalars → Memory → List ℕ → Bool → Kind → ℕ → Rule → Step
 withRule s m w last k n Reads = withRest s m last (readRest k w n)
-withRule s m w last k n Starts = step (gives (tickStart (s .tick)) n) (starting k s) m
-withRule s m w last k n (Ends t) = step (gives (tickEnd (s .tick)) n) (ending t NoCid k s) m
-withRule s m w last k n EndsHere = step (gives (tickEnd (s .tick)) n) (ending (s .tick) (s .remembered) k s) m
-withRule s m w last k n Over = refusal TickOverflow s m
+withRule s m w last k n Starts = stepOf (gives (tickStart (s .tick)) n) (starting k s) m
+withRule s m w last k n (Ends t) = stepOf (gives (tickEnd (s .tick)) n) (ending t NoCid k s) m
+withRule s m w last k n EndsHere = stepOf (gives (tickEnd (s .tick)) n) (ending (s .tick) (s .remembered) k s) m
+withRule s m w last k n Over = refusalStep TickOverflow s m
 
 abbrev pub withKind : Scalars → Memory → List ℕ → Bool → Reading Kind → Step
 withKind s m w last (got k n) = withRule s m w last k n (tickRule s k)
 withKind s m w last runsOut = outOf last s m
-withKind s m w last (refused r) = refusal r s m
+withKind s m w last (refused r) = refusalStep r s m
 
 -- rule 1: the pending kind is taken, else a kind is read
 unfoldable pub nextKind : Version → Pending → List ℕ → Reading Kind
@@ -283,14 +283,14 @@ openCall s m w last = withKind s m w last (nextKind (s .version) (s .pending) w)
 
 -- a call on a good reader
 unfoldable pub goodCall : Scalars → Memory → List ℕ → Bool → Step
-goodCall s m w last = cond (s .closed) (step (refusing Closed) s m) (openCall s m w last)
+goodCall s m w last = cond (s .closed) (stepOf (refusing Closed) s m) (openCall s m w last)
 
 abbrev pub memoryOf : Entries → Memory
 memoryOf e = record { entries = e; input = zeros 10; former = zeros 10 }
 
 -- a call on any scalars and memory: 17 comes first
 abbrev pub callOn : Scalars → Memory → List ℕ → Bool → Step
-callOn s m w last = cond (goodReader (readerWith s (m .entries))) (goodCall s m w last) (step (refusing BadState) s m)
+callOn s m w last = cond (goodReader (readerWith s (m .entries))) (goodCall s m w last) (stepOf (refusing BadState) s m)
 
 -- a call on any reader: beside an answer that is no input event stand zeros
 unfoldable pub readCall : Reader → List ℕ → Bool → Step

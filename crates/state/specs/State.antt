@@ -7,6 +7,7 @@ use lib.Dec.{ltb, eqb}
 use lib.IntN.{ℤ, pos, negsuc}
 use lib.Signed.{leZ, ltZ, nonNeg}
 use Rattle.fields.specs.Views.{zeros}
+pub use Rattle.kinds.specs.Kinds.{hasEx}
 use Rattle.kinds.specs.declared.Version.{Version}
 use Rattle.kinds.specs.declared.Version.the-variants.{V1, V2}
 use Rattle.kinds.specs.declared.Kind.{Kind}
@@ -22,11 +23,11 @@ use Rattle.state.specs.declared.Reader.{Reader}
 -- ---- numbers
 
 -- two numbers are the same
-abbrev pub same : ℤ → ℤ → Bool
-same (pos a) (pos b) = eqb a b
-same (pos a) (negsuc b) = false
-same (negsuc a) (pos b) = false
-same (negsuc a) (negsuc b) = eqb a b
+abbrev pub sameInt : ℤ → ℤ → Bool
+sameInt (pos a) (pos b) = eqb a b
+sameInt (pos a) (negsuc b) = false
+sameInt (negsuc a) (pos b) = false
+sameInt (negsuc a) (negsuc b) = eqb a b
 
 abbrev pub larger : ℤ → ℤ → ℤ
 larger a b = cond (ltZ a b) b a
@@ -99,13 +100,13 @@ abbrev pub goodEntry : ℕ → Bool → Bool
 goodEntry mark blank = cond (eqb mark 1) true (eqb mark 0 && blank)
 
 abbrev pub goodPlayer : List ℕ → List ℤ → List ℤ → ℕ → Bool
-goodPlayer marks xs ys i = goodEntry (getD marks i 0) (same (getD xs i (pos 0)) (pos 0) && same (getD ys i (pos 0)) (pos 0))
+goodPlayer marks xs ys i = goodEntry (getD marks i 0) (sameInt (getD xs i (pos 0)) (pos 0) && sameInt (getD ys i (pos 0)) (pos 0))
 
 unfoldable pub goodPlayers : List ℕ → List ℤ → List ℤ → Bool
 goodPlayers marks xs ys = every 128 (goodPlayer marks xs ys)
 
 abbrev pub zeroAt : List ℤ → ℕ → ℕ → Bool
-zeroAt inputs c k = same (getD inputs (10 * c + k) (pos 0)) (pos 0)
+zeroAt inputs c k = sameInt (getD inputs (10 * c + k) (pos 0)) (pos 0)
 
 unfoldable pub tenZeros : List ℤ → ℕ → Bool
 tenZeros inputs c = every 10 (zeroAt inputs c)
@@ -118,10 +119,6 @@ goodInputs held inputs = every 128 (goodInput held inputs)
 
 abbrev pub goodEntries : Entries → Bool
 goodEntries e = goodPlayers (e .marks) (e .xs) (e .ys) && goodInputs (e .held) (e .inputs)
-
-abbrev pub hasEx : Version → Bool
-hasEx V1 = false
-hasEx V2 = true
 
 -- no pending PlayerDiff of a negative client, no pending extension in version 1
 abbrev pub goodSort : Version → Sort → Bool

@@ -17,7 +17,7 @@ use Rattle.state.specs.Reading.{
   input,
   other,
   Step,
-  step,
+  stepOf,
 }
 use Rattle.state.specs.declared.Scalars.{Scalars}
 use Rattle.state.specs.declared.Event.the-variants as events
@@ -42,7 +42,7 @@ saidIs (answers.Finish used) = finish used
 saidIs (answers.Refused r) = refusing r
 
 abbrev pub done : Outcome → Memory → Step
-done o m = step (saidIs (o .answer)) (o .scalars) m
+done o m = stepOf (saidIs (o .answer)) (o .scalars) m
 
 -- an event without the arguments that stand beside a record
 abbrev pub slim : Event → Event
@@ -61,4 +61,4 @@ slimSaid (finish used) = finish used
 slimSaid (refuses n vs) = refuses n vs
 
 abbrev pub slimStep : Step → Step
-slimStep t = step (slimSaid (t .said)) (t .scalars) (t .memory)
+slimStep t = stepOf (slimSaid (t .said)) (t .scalars) (t .memory)

@@ -4,7 +4,7 @@ ghost use Prim.Native.Nat.{_<_};
 ghost use Rattle.item.specs.Said.{gives};
 ghost use Rattle.state.specs.State.{Memory, larger, emptyReader};
 ghost use Rattle.state.specs.Reading.{
-  step,
+  stepOf,
   turned,
   closing,
   raisedTo,
@@ -14,7 +14,7 @@ ghost use Rattle.state.specs.Reading.{
   starting,
   ending,
   skipping,
-  refusal,
+  refusalStep,
   outOf,
   nextTick,
   tickSkip,
@@ -23,7 +23,7 @@ ghost use Rattle.state.specs.Reading.{
   tickRule,
 };
 ghost use Rattle.state.specs.Views.{eventIs, done};
-ghost use Rattle.state.specs.Inside.{noEntry};
+ghost use Rattle.state.specs.steps.Inside.{noEntry};
 use item::Item;
 use kinds::Cid;
 use kinds::Kind;
@@ -177,7 +177,7 @@ pub fn closed(s: Scalars) -> Scalars
 }
 
 pub fn refuse(s: Scalars, why: Refusal) -> Outcome
-    ensures { λ r. ⌜ ((m : Memory) → done r m ≡ refusal why s m) ⌝ }
+    ensures { λ r. ⌜ ((m : Memory) → done r m ≡ refusalStep why s m) ⌝ }
 {
     let scalars = closed(s);
     Outcome {
@@ -198,7 +198,7 @@ pub fn no_entry(bits: u32, why: Refusal) -> Refusal
 
 // An event, and the scalars that it leaves.
 pub fn gave(event: Event, used: usize, scalars: Scalars) -> Outcome
-    ensures { λ r. ⌜ ((m : Memory) → done r m ≡ step (gives (eventIs event) used) scalars m) ⌝ }
+    ensures { λ r. ⌜ ((m : Memory) → done r m ≡ stepOf (gives (eventIs event) used) scalars m) ⌝ }
 {
     Outcome {
         answer: Answer::Event { event, used },

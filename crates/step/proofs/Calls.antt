@@ -9,7 +9,7 @@ use Rattle.kinds.specs.declared.Kind.{Kind}
 use Rattle.kinds.specs.declared.KindRead.{KindRead}
 use Rattle.kinds.specs.declared.KindRead.the-variants as reads
 use Rattle.state.specs.State.{Memory}
-use Rattle.state.specs.Reading.{Step, refusal, outOf, tickRule, withRule, withKind, nextKind, openCall}
+use Rattle.state.specs.Reading.{Step, refusalStep, outOf, tickRule, withRule, withKind, nextKind, openCall}
 use Rattle.state.specs.Views.{slimStep}
 use Rattle.state.specs.declared.Scalars.{Scalars}
 use Rattle.rests.proofs.Slim.{slim-calm, calm-refusal, calm-out}
@@ -26,5 +26,5 @@ module _ (s : Scalars) (m : Memory) (w : List ℕ) (last : Bool) (r : KindRead) 
   pub kind-out : r ≡ reads.RunsOut → outOf last s m ≡ slimStep (openCall s m w last)
   kind-out e = sym (slim-calm _ (calm-out last s m)) ∙ kind-told reads.RunsOut e
 
-  pub kind-refused : (q : Refusal) → r ≡ reads.Refused q → refusal q s m ≡ slimStep (openCall s m w last)
+  pub kind-refused : (q : Refusal) → r ≡ reads.Refused q → refusalStep q s m ≡ slimStep (openCall s m w last)
   kind-refused q e = sym (slim-calm _ (calm-refusal q s m)) ∙ kind-told (reads.Refused q) e

@@ -15,25 +15,25 @@ use Rattle.texts.specs.declared.Used.{Used}
 use Rattle.texts.specs.declared.Used.the-variants.{Bytes, NoEvent}
 
 -- 138 zeros
-abbrev pub blank : List ℕ
-blank = replicate 138 0
+abbrev pub emptyText : List ℕ
+emptyText = replicate 138 0
 
 -- bytes up to the place past what was written
-abbrev pub textOf : List ℕ → Wrote → Text
-textOf bytes (wrotes.Past n) = record { bytes = bytes; len = n }
-textOf bytes (wrotes.Refused r) = record { bytes = bytes; len = 0 }
+abbrev pub textWith : List ℕ → Wrote → Text
+textWith bytes (wrotes.Past n) = record { bytes = bytes; len = n }
+textWith bytes (wrotes.Refused r) = record { bytes = bytes; len = 0 }
 
 abbrev pub noText : Text
-noText = record { bytes = blank; len = 0 }
+noText = record { bytes = emptyText; len = 0 }
 
 -- a line, which fits
 abbrev pub lineText : List ℕ → Text
-lineText line = textOf (lineTarget blank 0 line) (lineAnswer blank 0 line)
+lineText line = textWith (lineTarget emptyText 0 line) (lineAnswer emptyText 0 line)
 
 -- a word and numbers
 abbrev pub plainText : List ℕ → List ℤ → Text
 plainText word ns =
-    textOf (textTarget (plainMost word ns) blank 0 (plainLine word ns)) (textAnswer (plainMost word ns) blank 0 (plainLine word ns))
+    textWith (textTarget (plainMost word ns) emptyText 0 (plainLine word ns)) (textAnswer (plainMost word ns) emptyText 0 (plainLine word ns))
 
 abbrev pub toldText : Answer → List ℤ → Text
 toldText (answers.Event e used) ten = lineText (lineOf (eventIs e) ten)

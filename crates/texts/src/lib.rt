@@ -2,7 +2,7 @@
 ghost use mathlib.Core.Path.{_≡_};
 ghost use Rattle.lines.specs.Lines.{lineOf, lastLine};
 ghost use Rattle.state.specs.Views.{eventIs};
-ghost use Rattle.texts.specs.Texts.{textOf, lineText, plainText, toldText, usedOf, noText};
+ghost use Rattle.texts.specs.Texts.{textWith, lineText, plainText, toldText, usedOf, noText};
 use lines::Ending;
 use refusal::Refusal;
 use state::Answer;
@@ -22,7 +22,7 @@ pub enum Used {
 }
 
 fn text_of(bytes: [u8; 138], wrote: Wrote) -> Text
-    ensures { λ r. ⌜ r ≡ textOf bytes wrote ⌝ }
+    ensures { λ r. ⌜ r ≡ textWith bytes wrote ⌝ }
 {
     match wrote {
         Wrote::Past(len) => Text { bytes, len },

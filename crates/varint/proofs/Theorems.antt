@@ -13,7 +13,7 @@ use Rattle.refusal.specs.Said.{gives, refusing}
 use Rattle.refusal.specs.declared.Refusal.the-variants.{ShortTarget}
 use Rattle.varint.specs.Integers.{readFrom, readInt}
 use Rattle.varint.specs.Written.{fitsAt, wrote, wroteSaid, writing}
-use Rattle.varint.specs.Laws.{WrittenReads, ReadsWritten, WritersSay, Steady, Shorter, intOut, IntSteady}
+use Rattle.varint.specs.Laws.{IntWrittenReads, IntReadsWritten, WritersSay, Steady, Shorter, intOut, IntSteady}
 use Rattle.varint.specs.declared.IntRead.{IntRead}
 use Rattle.varint.specs.declared.IntRead.the-variants.{Got, RunsOut}
 use Rattle.varint.specs.declared.Wrote.the-variants.{Past, Refused}
@@ -21,10 +21,10 @@ use Rattle.varint.proofs.RoundTrip.{canonical-read}
 use Rattle.varint.proofs.Back.{read-canonical}
 use Rattle.varint.proofs.Prefix.{int-prefix}
 
-pub written-reads : WrittenReads
+pub written-reads : IntWrittenReads
 written-reads = canonical-read
 
-pub reads-written : ReadsWritten
+pub reads-written : IntReadsWritten
 reads-written = read-canonical
 
 fits-say : (fits : Bool) (next : ℕ) → wroteSaid (cond fits (Past next) (Refused ShortTarget)) ≡ cond fits (gives next 0) (refusing ShortTarget)

@@ -18,14 +18,14 @@ abbrev pub Bytes : List ℕ → Type 0
 Bytes s = (i : ℕ) → getD s i 0 < 256
 
 -- written and read again: the same number, no remark, exactly the bytes written used, whatever stands before and after
-abbrev pub WrittenReads : Type 0
-WrittenReads =
+abbrev pub IntWrittenReads : Type 0
+IntWrittenReads =
     (z : ℤ) → SFits w32 z → (before after : List ℕ)
     → readInt (before ++ canonical z ++ after) (length before) ≡ Got z (length before + length (canonical z)) None
 
 -- read without a remark: the bytes used are the written form
-abbrev pub ReadsWritten : Type 0
-ReadsWritten =
+abbrev pub IntReadsWritten : Type 0
+IntReadsWritten =
     (s : List ℕ) (at next : ℕ) (z : ℤ) → Bytes s → readInt s at ≡ Got z next None
     → (take (next - at) (drop at s) ≡ canonical z) × (next ≡ at + length (canonical z))
 

@@ -28,7 +28,7 @@ use Rattle.fields.specs.Fields.{
   runsOut,
   refused,
   intField,
-  dtOf,
+  dtFrom,
   dtField,
   maskField,
   partField,
@@ -42,8 +42,8 @@ use Rattle.fields.specs.Fields.{
   andThen,
   readFields,
 }
-use Rattle.kinds.specs.Kinds.{withClient, extension, kindOf, afterNumber, readKind}
-use Rattle.extensions.specs.Extensions.{Payload, shaped, whole, find, payloadAt}
+use Rattle.kinds.specs.Kinds.{withClient, extensionKind, kindOf, afterNumber, readKind}
+use Rattle.extensions.specs.Extensions.{Payload, shaped, allData, find, payloadAt}
 use Rattle.extensions.specs.declared.Extension.{Extension}
 use Rattle.extensions.specs.declared.Found.{Found}
 use Rattle.extensions.specs.declared.Found.the-variants.{Known, Unknown}
@@ -129,7 +129,7 @@ int-field : (at : ℕ) (x : IntRead) → IntPast at x → Past at (intField x)
 int-field at (ints.Got z next r) h = omega arith
 int-field at ints.RunsOut h = tt
 
-dt-of : (at : ℕ) (z : ℤ) (next : ℕ) → at < next → Past at (dtOf z next)
+dt-of : (at : ℕ) (z : ℤ) (next : ℕ) → at < next → Past at (dtFrom z next)
 dt-of at (pos n) next h = omega arith
 dt-of at (negsuc n) next h = tt
 
@@ -212,7 +212,7 @@ upto-past at end (refused r) h = tt
 
 payload-past : (s : List ℕ) (at : ℕ) (p : Part) (k : Extension) (y : Payload) (next : ℕ) → at ≤ next → Past at (ofPayload s p k y next)
 payload-past s at p k (shaped fs) next h = upto-past at next (asContent (Named k) (readFields fs (take next s) (p .at))) h
-payload-past s at p k whole next h = h
+payload-past s at p k allData next h = h
 
 found-past : (s : List ℕ) (at : ℕ) (id p : Part) (f : Found) (next : ℕ) → at ≤ next → Past at (ofFound s id p f next)
 found-past s at id p (Known k) next h = payload-past s at p k (payloadAt k) next h

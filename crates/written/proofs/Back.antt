@@ -16,7 +16,7 @@ use Rattle.fields.specs.Fields.{Field, uuid, blob, Value, num, bytes, strings, 
 use Rattle.fields.specs.Writing.{AllSorted, allWritable, writeFields}
 use Rattle.fields.proofs.Answers.{and-split}
 use Rattle.fields.proofs.Back.{all-back}
-use Rattle.extensions.specs.Extensions.{Payload, shaped, whole, idAt, payloadAt, find, isUnknown}
+use Rattle.extensions.specs.Extensions.{Payload, shaped, allData, idAt, payloadAt, find, isUnknown}
 use Rattle.extensions.specs.declared.Extension.{Extension}
 use Rattle.extensions.specs.declared.Found.{Found}
 use Rattle.extensions.specs.declared.Found.the-variants.{Known, Unknown}
@@ -112,7 +112,7 @@ module _ (s : List ℕ) (at : ℕ) (id load rest : List ℕ) (f : Frame s at id 
   payload-back : (l : Payload) (ms : List (Value (List ℕ))) → AllSorted (ownPayload l) ms → payloadWritable l ms ≡ true → load ≡ payloadBytes l ms
       → PayloadReads s at id load k l ms
   payload-back (shaped fs) ms sorted w e = shaped-back fs ms sorted w e
-  payload-back whole ms sorted w e =
+  payload-back allData ms sorted w e =
       let q : bytes load ∷ [] ≡ ms = rw e (sym (one-part ms sorted)) in
       (rw (f .load-shown, q), refl)
 

@@ -155,7 +155,7 @@ pub record KindBack (v : Version) (k : Kind) (s : List ℕ) (at : ℕ) : Type 0 
   pub reads : readKind v s at ≡ got k (at + length (kindBytes k))
   pub clean : kindRemarks k s at ≡ 0
 
-ex-kind : (v : Version) (n : ℕ) → hasEx v ≡ true → item.extension v n ≡ got kinds.Ex n
+ex-kind : (v : Version) (n : ℕ) → hasEx v ≡ true → item.extensionKind v n ≡ got kinds.Ex n
 ex-kind V1 n a = absurd (false≢true a)
 ex-kind V2 n a = refl
 

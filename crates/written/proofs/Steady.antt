@@ -20,7 +20,7 @@ use Rattle.fields.specs.Fields.{Value, Reading, got, runsOut, refused, readFiel
 use Rattle.fields.specs.Laws.{isOut}
 use Rattle.fields.proofs.Steady.{int-had, all-steady}
 use Rattle.kinds.specs.Kinds.{withClient, kindOf, afterNumber, readKind}
-use Rattle.extensions.specs.Extensions.{Payload, shaped, whole, find, payloadAt}
+use Rattle.extensions.specs.Extensions.{Payload, shaped, allData, find, payloadAt}
 use Rattle.extensions.specs.declared.Extension.{Extension}
 use Rattle.extensions.specs.declared.Found.{Found}
 use Rattle.extensions.specs.declared.Found.the-variants.{Known, Unknown}
@@ -53,7 +53,7 @@ kind-steady v s t at e =
 
 payload-steady : (s t : List ℕ) (p : Part) (k : Extension) (l : Payload) (n : ℕ) → n ≤ length s → ofPayload (s ++ t) p k l n ≡ ofPayload s p k l n
 payload-steady s t p k (shaped fs) n h = rw (take-append-le n s t h)
-payload-steady s t p k whole n h = refl
+payload-steady s t p k allData n h = refl
 
 found-steady : (s t : List ℕ) (id p : Part) (f : Found) (n : ℕ) → n ≤ length s → ofFound (s ++ t) id p f n ≡ ofFound s id p f n
 found-steady s t id p (Known k) n h = payload-steady s t p k (payloadAt k) n h

@@ -9,7 +9,7 @@ use Rattle.fields.proofs.Answers.{and-split}
 use Rattle.item.specs.Records.{meaning, readRecord}
 use Rattle.item.specs.Contents.{recordOf}
 use Rattle.written.specs.Written.{writeContent, contentWritable, tagCount, hasForm, recordBytes}
-use Rattle.written.specs.Laws.{WritableIsForm, WrittenReads, ReadsWritten, Rewritten, RecordSteady, RecordCalls}
+use Rattle.written.specs.Laws.{WritableIsForm, RecordWrittenReads, RecordReadsWritten, Rewritten, RecordSteady, RecordCalls}
 use Rattle.written.proofs.Back.{tag-back}
 use Rattle.written.proofs.Calls.{call-is}
 use Rattle.written.proofs.Rewritten.{record-rewritten}
@@ -21,7 +21,7 @@ use Rattle.written.proofs.Whole.{record-same}
 pub writable-form : WritableIsForm
 writable-form = writable-is-form
 
-pub written-reads : WrittenReads
+pub written-reads : RecordWrittenReads
 unfolding writeContent contentWritable hasForm recordBytes
 written-reads v s r typed w after =
     let c = recordOf r in
@@ -31,7 +31,7 @@ written-reads v s r typed w after =
     let p = and-split (partsInside s (c .values)) (contentWritable v m) (o .1) in
     tag-back v (c .tag) (m .values) (content-typed s (c .tag) (c .values) typed (p .0)) (p .1) after
 
-pub reads-written : ReadsWritten
+pub reads-written : RecordReadsWritten
 reads-written = record-same
 
 pub rewritten : Rewritten

@@ -18,7 +18,7 @@ use Rattle.fields.specs.Fields.{Field, int, Value, num, mean}
 use Rattle.fields.specs.Views.{tenFields}
 use Rattle.fields.specs.Writing.{allNoZero, allWritable, inside, allInside, partsInside}
 use Rattle.fields.specs.declared.Args.{Args}
-use Rattle.shapes.specs.Shapes.{idPart}
+use Rattle.shapes.specs.steps.Shapes.{idPart}
 use Rattle.extensions.specs.Extensions.{extensionRow, payloadAt, find, isUnknown}
 use Rattle.extensions.specs.declared.Extension.{Extension}
 use Rattle.extensions.specs.declared.Extension.the-variants as extensions
@@ -28,7 +28,7 @@ use Rattle.item.specs.declared.Item.{Item}
 use Rattle.item.specs.declared.Item.the-variants as items
 use Rattle.item.specs.declared.Record.{Record}
 use Rattle.written.specs.Written.{payloadBytes, hasEx, contentWritable, hasForm}
-use Rattle.written.specs.Unwritable.{someOf, isLargeDt, holdsZero, isLongData, valuesOf, recordWritable}
+use Rattle.written.specs.Unwritable.{someOf, isLargeDt, holdsZero, isLongData, recordValues, recordWritable}
 
 -- ---- tests put together in another order
 
@@ -115,7 +115,7 @@ module _ (v : Version) (s : List ℕ) (ten : List ℤ) (xs : Args) where
   Same i = recordWritable v s (recordWith i ten xs) ≡ hasForm v s (recordWith i ten xs)
 
   abbrev loadIs : Extension → Item → Bool
-  loadIs k i = isData (payloadBytes (payloadAt k) (valuesOf s (recordWith i ten xs)))
+  loadIs k i = isData (payloadBytes (payloadAt k) (recordValues s (recordWith i ten xs)))
 
   abbrev within : Part → Bool
   within p = inside s p

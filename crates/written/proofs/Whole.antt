@@ -21,7 +21,7 @@ use Rattle.fields.proofs.Answers.{not-out, not-refused, same-got, and-both}
 use Rattle.fields.proofs.Taken.{field-taken}
 use Rattle.fields.proofs.AllTaken.{fields-taken}
 use Rattle.kinds.specs.Kinds.{readKind}
-use Rattle.extensions.specs.Extensions.{Payload, shaped, whole, payloadAt, find}
+use Rattle.extensions.specs.Extensions.{Payload, shaped, allData, payloadAt, find}
 use Rattle.extensions.specs.declared.Extension.{Extension}
 use Rattle.extensions.specs.declared.Found.{Found}
 use Rattle.extensions.specs.declared.Found.the-variants.{Known, Unknown}
@@ -81,10 +81,10 @@ module _ (v : Version) (ex : hasEx v ≡ true) (s : List ℕ) (b : Bytes s) (at 
           same = rw (j, q, p) ex-same;
         }
 
-    whole-same : payloadAt e ≡ whole → Same v s (content (Named e) (bytes (loadPart at id load) ∷ [])) (endAt at id load)
+    whole-same : payloadAt e ≡ allData → Same v s (content (Named e) (bytes (loadPart at id load) ∷ [])) (endAt at id load)
     whole-same q =
         let i : inside s (loadPart at id load) ≡ true = le-leb (loadAt at id load + length load) (length s) (omega (arith, f .ends, f .within)) in
-        named-same whole q (bytes (loadPart at id load) ∷ []) (rw i) refl (f .load-shown)
+        named-same allData q (bytes (loadPart at id load) ∷ []) (rw i) refl (f .load-shown)
 
     shaped-same : (fs : List Field) → payloadAt e ≡ shaped fs → (vs : List (Value Part)) (m : ℕ)
         → readFields fs (take (endAt at id load) s) (loadAt at id load) ≡ got vs m
@@ -112,7 +112,7 @@ module _ (v : Version) (ex : hasEx v ≡ true) (s : List ℕ) (b : Bytes s) (at 
         → ofPayload s (loadPart at id load) e l (endAt at id load) ≡ got c next
         → payloadRemarks s (loadPart at id load) l (endAt at id load) ≡ 0 → Same v s c next
     payload-same (shaped fs) q c next g r = fields-by fs q (readFields fs (take (endAt at id load) s) (loadAt at id load)) refl c next g r
-    payload-same whole q c next g r = same-got (Same v s) g (whole-same q)
+    payload-same allData q c next g r = same-got (Same v s) g (whole-same q)
 
   other-same : find id ≡ Unknown → Same v s (content Other (bytes (idPart at id) ∷ bytes (loadPart at id load) ∷ [])) (endAt at id load)
   unfolding writeContent contentWritable

@@ -16,7 +16,7 @@ use Rattle.extensions.specs.Extensions.{payloadAt}
 use Rattle.item.specs.Records.{Content, meaning, restOf, readRecord, recordCall, recordRemarks}
 use Rattle.item.specs.Contents.{recordOf, tidyRecord, ownPayload}
 use Rattle.kinds.specs.declared.Version.{Version}
-use Rattle.kinds.specs.Kinds.{Client, nowhere, isNumber, following, first, kindRow}
+use Rattle.kinds.specs.Kinds.{Client, nowhere, isNumber, following, leading, kindRow}
 use Rattle.kinds.specs.declared.Kind.{Kind}
 use Rattle.item.specs.declared.Tag.{Tag}
 use Rattle.item.specs.declared.Tag.the-variants.{Plain, Named, Other}
@@ -39,7 +39,7 @@ abbrev pub ClientFits : Client → Type 0
 ClientFits nowhere = Unit
 ClientFits (isNumber c) = SFits w32 c
 ClientFits (following c) = SFits w32 c
-ClientFits first = Unit
+ClientFits leading = Unit
 
 abbrev pub kindNumbers : Kind → Type 0
 kindNumbers k = ClientFits (kindRow k .client)
@@ -59,8 +59,8 @@ WritableIsForm = (v : Version) (s : List ℕ) (r : Record) → recordWritable v 
 
 -- ---- written and read again in the same version: the same record, exactly the bytes written used, no remark, whatever follows
 
-abbrev pub WrittenReads : Type 0
-WrittenReads =
+abbrev pub RecordWrittenReads : Type 0
+RecordWrittenReads =
     (v : Version) (s : List ℕ) (r : Record) → TypedRecord r → recordWritable v s r ≡ true → (after : List ℕ)
     → (meant (recordBytes s r ++ after) (readRecord v (recordBytes s r ++ after) 0) ≡ got (meaning s (recordOf r)) (length (recordBytes s r)))
     × (recordRemarks v (recordBytes s r ++ after) 0 ≡ 0)
@@ -73,8 +73,8 @@ pub record Same (v : Version) (s : List ℕ) (c : Content Part) (next : ℕ) : T
   pub writable : contentWritable v (meaning s c) ≡ true
   pub same : writeContent (meaning s c) ≡ take next s
 
-abbrev pub ReadsWritten : Type 0
-ReadsWritten =
+abbrev pub RecordReadsWritten : Type 0
+RecordReadsWritten =
     (v : Version) (s : List ℕ) (c : Content Part) (next : ℕ) → Bytes s → readRecord v s 0 ≡ got c next
     → recordRemarks v s 0 ≡ 0 → Same v s c next
 

@@ -15,7 +15,7 @@ use Rattle.extensions.specs.Extensions.{payloadAt, find, isUnknown}
 use Rattle.item.specs.Records.{restOf}
 use Rattle.item.specs.Contents.{ownPayload, recordOf}
 use Rattle.kinds.specs.declared.Version.{Version}
-use Rattle.kinds.specs.Kinds.{Client, nowhere, isNumber, following, first, kindRow}
+use Rattle.kinds.specs.Kinds.{Client, nowhere, isNumber, following, leading, kindRow}
 use Rattle.item.specs.declared.Tag.{Tag}
 use Rattle.item.specs.declared.Tag.the-variants.{Plain, Named, Other}
 use Rattle.item.specs.declared.Record.{Record}
@@ -48,11 +48,11 @@ someOf test (f ∷ fs) [] = false
 someOf test (f ∷ fs) (v ∷ vs) = test f v || someOf test fs vs
 
 -- the values of a record, with the bytes that its parts show
-abbrev pub valuesOf : List ℕ → Record → List (Value (List ℕ))
-valuesOf s r = map (mean s) (recordOf r .values)
+abbrev pub recordValues : List ℕ → Record → List (Value (List ℕ))
+recordValues s r = map (mean s) (recordOf r .values)
 
 abbrev pub someField : (Field → Value (List ℕ) → Bool) → List ℕ → Record → Bool
-someField test s r = someOf test (tagFields (recordOf r .tag)) (valuesOf s r)
+someField test s r = someOf test (tagFields (recordOf r .tag)) (recordValues s r)
 
 -- ---- 1: a negative PlayerDiff client
 
@@ -60,7 +60,7 @@ abbrev pub negativeNumber : Client → Bool
 negativeNumber nowhere = false
 negativeNumber (isNumber c) = not (nonNeg c)
 negativeNumber (following c) = false
-negativeNumber first = false
+negativeNumber leading = false
 
 abbrev pub negativeTag : Tag → Bool
 negativeTag (Plain k) = negativeNumber (kindRow k .client)
@@ -104,7 +104,7 @@ longPayload (Named k) ms = not (isData (payloadBytes (payloadAt k) ms))
 longPayload Other ms = false
 
 abbrev pub longData : List ℕ → Record → Bool
-longData s r = someField isLongData s r || longPayload (recordOf r .tag) (valuesOf s r)
+longData s r = someField isLongData s r || longPayload (recordOf r .tag) (recordValues s r)
 
 -- ---- 6: an extension in version 1
 
@@ -124,7 +124,7 @@ isKnownId (Named k) ms = false
 isKnownId Other ms = not (isUnknown (find (firstBytes ms)))
 
 abbrev pub knownIdentifier : List ℕ → Record → Bool
-knownIdentifier s r = isKnownId (recordOf r .tag) (valuesOf s r)
+knownIdentifier s r = isKnownId (recordOf r .tag) (recordValues s r)
 
 -- ---- 8: a part reaching outside the bytes lent with the record
 

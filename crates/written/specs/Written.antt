@@ -15,7 +15,7 @@ use Rattle.kinds.specs.Kinds.{
   nowhere,
   isNumber,
   following,
-  first,
+  leading,
   Beside,
   nothing,
   ten,
@@ -24,9 +24,10 @@ use Rattle.kinds.specs.Kinds.{
   kindRow,
   kindNumber,
 }
-use Rattle.extensions.specs.Extensions.{Payload, shaped, whole, idAt, payloadAt, find, isUnknown}
+use Rattle.extensions.specs.Extensions.{Payload, shaped, allData, idAt, payloadAt, find, isUnknown}
 use Rattle.item.specs.Records.{Content, meaning, Rest, fields, extension, restOf}
 use Rattle.item.specs.Contents.{recordOf}
+pub use Rattle.kinds.specs.Kinds.{hasEx}
 use Rattle.kinds.specs.declared.Version.{Version}
 use Rattle.kinds.specs.declared.Version.the-variants.{V1, V2}
 use Rattle.kinds.specs.declared.Kind.{Kind}
@@ -41,7 +42,7 @@ abbrev pub followingBytes : Client → List ℕ
 followingBytes nowhere = []
 followingBytes (isNumber c) = []
 followingBytes (following c) = canonical c
-followingBytes first = []
+followingBytes leading = []
 
 abbrev pub clientBytes : Kind → List ℕ
 clientBytes k = followingBytes (kindRow k .client)
@@ -63,7 +64,7 @@ secondBytes (v ∷ vs) = firstBytes vs
 
 abbrev pub payloadBytes : Payload → List (Value (List ℕ)) → List ℕ
 payloadBytes (shaped fs) vs = writeFields fs vs
-payloadBytes whole vs = firstBytes vs
+payloadBytes allData vs = firstBytes vs
 
 -- an extension: -11, the identifier, the data
 abbrev pub exBytes : List ℕ → List ℕ → List ℕ
@@ -79,16 +80,12 @@ writeContent c = tagBytes (c .tag) (c .values)
 
 -- ---- which have one, by the structure of records; specs/Unwritable.antt has the tests for the others
 
-abbrev pub hasEx : Version → Bool
-hasEx V1 = false
-hasEx V2 = true
-
 -- a client that is the kind's number is none below 0
 abbrev pub clientWritable : Client → Bool
 clientWritable nowhere = true
 clientWritable (isNumber c) = nonNeg c
 clientWritable (following c) = true
-clientWritable first = true
+clientWritable leading = true
 
 -- an extension is written by its identifier
 abbrev pub besideWritable : Beside → Bool
@@ -102,7 +99,7 @@ kindWritable k = besideWritable (kindRow k .beside) && clientWritable (kindRow k
 
 abbrev pub payloadWritable : Payload → List (Value (List ℕ)) → Bool
 payloadWritable (shaped fs) vs = allWritable fs vs
-payloadWritable whole vs = true
+payloadWritable allData vs = true
 
 abbrev pub tagWritable : Version → Tag → List (Value (List ℕ)) → Bool
 tagWritable v (Plain k) vs = kindWritable k && allWritable (allFields (restOf k)) vs

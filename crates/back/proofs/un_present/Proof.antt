@@ -5,7 +5,7 @@ use mathlib.Core.Bool.{_&&_}
 use lib.ListN.{getD}
 use lib.Dec.{eqb}
 use borrow.Author.Tests.{not-true, not-false}
-use Rattle.state.specs.State.{same, xOf, yOf, withPlayer}
+use Rattle.state.specs.State.{sameInt, xOf, yOf, withPlayer}
 use Rattle.state.proofs.Numbers.{back, bits-are, element}
 use Rattle.back.specs.Board.{board}
 use Rattle.back.specs.Back.{steppedFrom}
@@ -28,7 +28,7 @@ placed : (c : tie.After-at-position)
     → (let st = c .before .before .before .before .before .before in
     let e = st .args .t2 in
     let i = c .before .before .before .before .before .bits .result in
-    c .at-position .result ≡ (eqb (getD (e .marks) i 0) 1 && (same (xOf e i) (st .args .x) && same (yOf e i) (st .args .y))))
+    c .at-position .result ≡ (eqb (getD (e .marks) i 0) 1 && (sameInt (xOf e i) (st .args .x) && sameInt (yOf e i) (st .args .y))))
 placed c =
     let st = c .before .before .before .before .before .before in
     let a = st .args in

@@ -2,7 +2,7 @@
 use borrow.Author.Needs.{needs}
 use mathlib.Core.Path.{_≡_, sym, _∙_}
 use mathlib.Core.Bool.{true, false}
-use Rattle.state.specs.State.{same}
+use Rattle.state.specs.State.{sameInt}
 use Rattle.state.proofs.Numbers.{back}
 use Rattle.back.specs.Board.{board}
 use Rattle.back.specs.declared.BoardTick.the-variants.{In, NoTick}
@@ -14,7 +14,7 @@ returns : tie.Need-returns
 returns c =
     let st = c .before .before .before in
     let a = st .args in
-    let q : same (a .t) (a .u) ≡ true =
+    let q : sameInt (a .t) (a .u) ≡ true =
     rw (back (a .t) (st .fits .t), back (a .u) (st .fits .u)) at (sym (c .before .before .same-number .ensures) ∙ c .before .if1 .taken)
     in
     c .stepped .ensures (board (In (a .t)) (a .entries)) ∙ fitting (board (In (a .t)) (a .entries)) (board NoTick (a .entries)) _ q
@@ -24,7 +24,7 @@ returns-2 c =
     let st = c .before .before .before in
     let a = st .args in
     let t = back (a .t) (st .fits .t) in
-    let q : same (a .t) (a .u) ≡ false =
+    let q : sameInt (a .t) (a .u) ≡ false =
     rw (t, back (a .u) (st .fits .u)) at (sym (c .before .before .same-number .ensures) ∙ c .before .if1 .left)
     in
     rw t at (c .not-last .ensures) ∙ unfit (board (In (a .t)) (a .entries)) (board NoTick (a .entries)) _ q

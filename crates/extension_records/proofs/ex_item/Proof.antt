@@ -3,7 +3,7 @@ use mathlib.Core.Path.{_≡_, _∙_, ap}
 use borrow.Author.Needs.{needs}
 use Rattle.extensions.specs.Extensions.{extensionRow, payloadAt}
 use Rattle.extensions.specs.declared.Extension.{Extension}
-use Rattle.extension_records.specs.Views.{exContent}
+use Rattle.extension_records.specs.steps.Views.{exContent}
 use Rattle.extension_records.proofs.Held.{held, held-same}
 use Rattle.extension_records.proofs.ex_item.Statement.{statement}
 use Rattle.extension_records.proofs.ex_item.Tie as tie

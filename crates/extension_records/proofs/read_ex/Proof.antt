@@ -2,7 +2,7 @@
 use mathlib.Core.Path.{_≡_, sym, _∙_, ap}
 use borrow.Author.Needs.{needs}
 use Rattle.packer.proofs.Parts.{data-taken}
-use Rattle.shapes.specs.Shapes.{idPart}
+use Rattle.shapes.specs.steps.Shapes.{idPart}
 use Rattle.shapes.proofs.Kept.{id-kept}
 use Rattle.extensions.specs.declared.Found.{Found}
 use Rattle.extensions.specs.declared.Found.the-variants.{Known, Unknown}

@@ -4,11 +4,11 @@ use borrow.Author.Needs.{needs}
 use lib.Seq.{length-take-le}
 use Rattle.packer.specs.declared.Part.{Part}
 use Rattle.fields.specs.Fields.{got}
-use Rattle.shapes.specs.Shapes.{viewed}
+use Rattle.shapes.specs.steps.Shapes.{viewed}
 use Rattle.shapes.specs.declared.FieldsRead.the-variants as read
 use Rattle.extensions.specs.Extensions.{payloadAt}
 use Rattle.item.specs.Records.{Content}
-use Rattle.extensions.specs.Layouts.{payloadIs}
+use Rattle.extensions.specs.steps.Layouts.{payloadIs}
 use Rattle.extension_records.proofs.Payloads.{shaped-payload}
 use Rattle.extension_records.proofs.read_payload.Statement.{statement}
 use Rattle.extension_records.proofs.read_payload.Tie as tie

@@ -3,7 +3,7 @@ use mathlib.Core.Path.{_≡_, refl}
 use mathlib.Core.Bool.{Bool}
 use borrow.Author.Needs.{needs}
 use Rattle.extensions.specs.Extensions.{extensionRow, payloadAt, hasClient}
-use Rattle.extensions.specs.Layouts.{payloadIs, rowWith, RowOf}
+use Rattle.extensions.specs.steps.Layouts.{payloadIs, rowWith, RowOf}
 use Rattle.extensions.specs.declared.Extension.{Extension}
 use Rattle.extensions.specs.declared.Layout.{Layout}
 use Rattle.extensions.specs.declared.Row.{Row}

@@ -4,7 +4,7 @@ use Prim.Native.Nat.{_-_}
 use mathlib.Core.Path.{sym, _∙_, ap}
 use native.Mathlib.Omega.{arith}
 use borrow.Author.Needs.{needs}
-use Rattle.fields.specs.Reads.{argsRead}
+use Rattle.fields.specs.steps.Reads.{argsRead}
 use Rattle.fields.proofs.Arguments.{Far, far-start, far-done, far-out, far-many, far-more}
 use Rattle.fields.proofs.read_strings.Statement.{statement}
 use Rattle.fields.proofs.read_strings.Tie as tie

@@ -7,7 +7,7 @@ use mathlib.Core.Logic.{⊎-elim}
 use native.Mathlib.Omega.{arith}
 use lib.ListN.{length, drop}
 use Rattle.fields.specs.Fields.{argsFrom}
-use Rattle.fields.specs.Reads.{argsRead}
+use Rattle.fields.specs.steps.Reads.{argsRead}
 use Rattle.fields.proofs.Passed.{passing, pass-start, pass-done, pass-out, pass-byte, pass-one, pass-many}
 use Rattle.fields.proofs.skip_strings.Statement.{statement}
 use Rattle.fields.proofs.skip_strings.Tie as tie

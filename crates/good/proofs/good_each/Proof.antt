@@ -4,7 +4,7 @@ use Prim.Native.Nat.{_≤_, _-_, _+_}
 use mathlib.Core.Path.{_≡_}
 use native.Mathlib.Omega.{arith}
 use Rattle.state.specs.State.{every, goodInput}
-use Rattle.good.specs.Blocks.{from}
+use Rattle.good.specs.steps.Blocks.{from}
 use Rattle.state.proofs.Every.{none-yet, one-more, all-tested}
 use Rattle.good.proofs.good_each.Statement.{statement}
 use Rattle.good.proofs.good_each.Tie as tie

@@ -4,7 +4,7 @@ use Prim.Native.Nat.{_≤_, _-_}
 use mathlib.Core.Path.{_≡_, refl}
 use native.Mathlib.Omega.{arith}
 use Rattle.state.specs.State.{every}
-use Rattle.good.specs.Blocks.{from, noMark}
+use Rattle.good.specs.steps.Blocks.{from, noMark}
 use Rattle.state.proofs.Every.{none-yet, one-more, all-tested}
 use Rattle.good.proofs.unmarked.Statement.{statement}
 use Rattle.good.proofs.unmarked.Tie as tie

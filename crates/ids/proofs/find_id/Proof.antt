@@ -7,7 +7,7 @@ use borrow.Author.Needs.{needs}
 use lib.ListN.{take, drop}
 use Rattle.packer.specs.Parts.{shown}
 use Rattle.packer.proofs.Reading.{shown-in, shown-out}
-use Rattle.shapes.specs.Shapes.{idPart}
+use Rattle.shapes.specs.steps.Shapes.{idPart}
 use Rattle.extensions.specs.Extensions.{idAt, all, findIn, find}
 use Rattle.extensions.specs.declared.Found.the-variants.{Known}
 use Rattle.ids.proofs.Find.{find-step}

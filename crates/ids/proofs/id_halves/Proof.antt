@@ -4,7 +4,7 @@ use mathlib.Core.Path.{_≡_, refl, sym, ap, _∙_}
 use borrow.Author.Needs.{needs}
 use Rattle.extensions.specs.Extensions.{extensionRow, idAt}
 use Rattle.extensions.specs.declared.Extension.{Extension}
-use Rattle.ids.specs.Table.{halvesWith, halves}
+use Rattle.ids.specs.steps.Table.{halvesWith, halves}
 use Rattle.ids.specs.declared.Halves.{Halves}
 use Rattle.ids.proofs.id_halves.Statement.{statement}
 use Rattle.ids.proofs.id_halves.Tie as tie

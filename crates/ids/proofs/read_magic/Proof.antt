@@ -9,13 +9,13 @@ use borrow.Author.Needs.{needs}
 use borrow.Author.Tests.{lt-ltb, le-ltb}
 use Rattle.refusal.specs.Said.{gives, refusing}
 use Rattle.refusal.specs.declared.Refusal.the-variants.{WrongMagic}
-use Rattle.kinds.specs.Magic.{same}
+use Rattle.kinds.specs.Magic.{sameBytes}
 use Rattle.kinds.specs.Magic.{magic, readMagic}
 use Rattle.ids.proofs.Table.{magic-sixteen}
 use Rattle.ids.proofs.read_magic.Statement.{statement}
 use Rattle.ids.proofs.read_magic.Tie as tie
 
-compared : (s : List ℕ) (t : Bool) → 16 ≤ length s → same (take 16 s) magic ≡ t → cond t (gives tt 16) (refusing WrongMagic) ≡ readMagic s
+compared : (s : List ℕ) (t : Bool) → 16 ≤ length s → sameBytes (take 16 s) magic ≡ t → cond t (gives tt 16) (refusing WrongMagic) ≡ readMagic s
 unfolding readMagic
 compared s t h e = rw (le-ltb (length s) 16 h, e)
 

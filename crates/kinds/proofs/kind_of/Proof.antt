@@ -10,7 +10,7 @@ use mir.Facts.{toZ-ofZ}
 use Rattle.refusal.specs.declared.Refusal.the-variants.{UnknownType}
 use Rattle.num.proofs.Signs.{flag}
 use Rattle.fields.specs.Fields.{got, refused}
-use Rattle.kinds.specs.Kinds.{kindOf, extension}
+use Rattle.kinds.specs.Kinds.{kindOf, extensionKind}
 use Rattle.kinds.specs.declared.Version.{Version}
 use Rattle.kinds.specs.declared.Version.the-variants.{V1, V2}
 use Rattle.kinds.specs.declared.Kind.the-variants.{PlayerDiff}
@@ -26,8 +26,8 @@ at a e = arm (a .args .version) (a .args .s .now) (a .args .number) (a .args .ne
 
 -- an extension, by the version
 ex : (a : tie.Start) (v : Version) → a .args .version ≡ v → ofZ w32 (a .args .number) ≡ 4294967285
-    → extension v (a .args .next) ≡ kindOf (a .args .version) (a .args .s .now) (a .args .number) (a .args .next)
-ex a v e k = ap (λ (x : Version). extension x (a .args .next)) (sym e) ∙ at a k
+    → extensionKind v (a .args .next) ≡ kindOf (a .args .version) (a .args .s .now) (a .args .number) (a .args .next)
+ex a v e k = ap (λ (x : Version). extensionKind x (a .args .next)) (sym e) ∙ at a k
 
 returns-11 : tie.Need-returns-11
 returns-11 c =

@@ -11,7 +11,7 @@ use mir.Syntax.{w32}
 use mir.Val.{toZ, ofZ}
 use Rattle.varint.specs.Written.{written}
 use Rattle.packer.proofs.Joined.{Put, nothing-put}
-use Rattle.lines.specs.Lines.{spaced, numbers}
+use Rattle.lines.specs.Lines.{spaced, decimals}
 use Rattle.state.proofs.Numbers.{element}
 use Rattle.lines.proofs.Numbers.{none, one-fits, same-size, same-end, same-bytes}
 use Rattle.lines.proofs.put_numbers.Statement.{statement}
@@ -21,8 +21,8 @@ abbrev Inv-loop : tie.InvT-loop
 Inv-loop ns out₀ at i₀ next₀ out i next =
     (length out ≡ length out₀)
     × ((i ≤ length ns)
-    × ((next + length (numbers (drop i ns)) ≡ at + length (numbers ns))
-    × (written out next (numbers (drop i ns)) ≡ written out₀ at (numbers ns))))
+    × ((next + length (decimals (drop i ns)) ≡ at + length (decimals ns))
+    × (written out next (decimals (drop i ns)) ≡ written out₀ at (decimals ns))))
 
 abbrev μ-loop : tie.MeasureT-loop
 μ-loop ns out₀ at i₀ next₀ out i next = length ns - i
@@ -36,7 +36,7 @@ value c =
 
 -- what is still to come fits
 left-fits : (c : tie.In-loop Inv-loop μ-loop)
-    → let l = c .before .loop in l .next + length (numbers (drop (l .i) (c .before .before .before .args .ns .now))) ≤ length (l .out)
+    → let l = c .before .loop in l .next + length (decimals (drop (l .i) (c .before .before .before .args .ns .now))) ≤ length (l .out)
 left-fits c = omega (arith, c .before .loop .inv .1 .1 .0)
 
 put-spaced-requires : tie.Need-put-spaced-requires Inv-loop μ-loop
@@ -72,8 +72,8 @@ returns c =
     let l = c .before .loop in
     let s = c .before .before .before in
     let ns = s .args .ns .now in
-    let e : numbers (drop (l .i) ns) ≡ [] = rw (drop-of-length-le ns (c .loop-test .left)) none in
-    let n : l .next + 0 ≡ s .args .at + length (numbers ns) = rw e at (l .inv .1 .1 .0) in
+    let e : decimals (drop (l .i) ns) ≡ [] = rw (drop-of-length-le ns (c .loop-test .left)) none in
+    let n : l .next + 0 ≡ s .args .at + length (decimals ns) = rw e at (l .inv .1 .1 .0) in
     (omega arith, nothing-put (l .out) (l .next) (omega (arith, s .pre, l .inv .0)) ∙ (rw e at (l .inv .1 .1 .1)))
 
 pub put-numbers-spec : {M : Type 1} → statement M

@@ -6,7 +6,7 @@ use native.Mathlib.Omega.{arith}
 use borrow.Author.Needs.{needs}
 use borrow.Author.Tests.{leb-true, leb-false}
 use lib.ListN.{length, length-append}
-use Rattle.lines.specs.Lines.{numbers, newline, plainLine, plainMost}
+use Rattle.lines.specs.Lines.{decimals, newline, plainLine, plainMost}
 use Rattle.lines.proofs.Texts.{end-le, too-short, line-put}
 use Rattle.lines.proofs.write_plain.Statement.{statement}
 use Rattle.lines.proofs.write_plain.Tie as tie
@@ -20,7 +20,7 @@ room c =
 put-line-requires : tie.Need-put-line-requires
 put-line-requires c κs =
     let a = c .before .before .before .before .before .args in
-    omega (arith, room (c .before), length-append (a .word .now) (numbers (a .ns .now) ++ newline), end-le (a .ns .now))
+    omega (arith, room (c .before), length-append (a .word .now) (decimals (a .ns .now) ++ newline), end-le (a .ns .now))
 
 returns : tie.Need-returns
 returns c =

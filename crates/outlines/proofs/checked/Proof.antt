@@ -4,7 +4,7 @@ use borrow.Author.Needs.{needs}
 use mir.Syntax.{w32}
 use mir.Val.{SFits}
 use Rattle.num.proofs.Signs.{below-zero, not-below-zero}
-use Rattle.outlines.specs.Outlines.{checkedPiece}
+use Rattle.outlines.specs.steps.Outlines.{checkedPiece}
 use Rattle.outlines.proofs.checked.Statement.{statement}
 use Rattle.outlines.proofs.checked.Tie as tie
 

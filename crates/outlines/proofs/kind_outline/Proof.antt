@@ -4,7 +4,7 @@ use borrow.Author.Needs.{needs}
 use mir.Syntax.{w32}
 use mir.Val.{toZ, ofZ}
 use Rattle.kinds.specs.Kinds.{kindNumber}
-use Rattle.outlines.specs.Outlines.{outlineOf}
+use Rattle.outlines.specs.steps.Outlines.{outlineOf}
 use Rattle.outlines.proofs.kind_outline.Statement.{statement}
 use Rattle.outlines.proofs.kind_outline.Tie as tie
 

@@ -8,7 +8,7 @@ use mir.Val.{toZ, ofZ}
 use Rattle.packer.specs.Parts.{shown}
 use Rattle.packer.specs.Texts.{noZero}
 use Rattle.fields.specs.Writing.{inside}
-use Rattle.outlines.specs.Outlines.{leftAfter}
+use Rattle.outlines.specs.steps.Outlines.{leftAfter}
 use Rattle.outlines.proofs.Pieces.{left-none, left-join, left-id}
 use Rattle.outlines.proofs.left_piece.Statement.{statement}
 use Rattle.outlines.proofs.left_piece.Tie as tie

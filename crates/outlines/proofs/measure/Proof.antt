@@ -4,7 +4,7 @@ use mathlib.Core.Path.{_≡_, refl, sym, _∙_, ap}
 use native.Mathlib.Omega.{arith}
 use borrow.Author.Needs.{needs}
 use lib.ListN.{length, drop, length-map, drop-of-length-le}
-use Rattle.outlines.specs.Outlines.{piecesOf, piecesOk, piecesBytes, leftAfter}
+use Rattle.outlines.specs.steps.Outlines.{piecesOf, piecesOk, piecesBytes, leftAfter}
 use Rattle.outlines.proofs.Pieces.{left-none, left-next, pieces-end}
 use Rattle.outlines.proofs.measure.Statement.{statement}
 use Rattle.outlines.proofs.measure.Tie as tie

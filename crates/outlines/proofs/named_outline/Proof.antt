@@ -10,7 +10,7 @@ use mir.Syntax.{w32}
 use mir.Val.{toZ}
 use mir.Facts.{toZ-pos}
 use borrow.Author.Tests.{lt-leb}
-use Rattle.outlines.specs.Outlines.{leftAfter}
+use Rattle.outlines.specs.steps.Outlines.{leftAfter}
 use Rattle.outlines.specs.declared.Left.the-variants.{Room}
 use Rattle.outlines.proofs.Pieces.{room-left, too-short, not-ok}
 use Rattle.outlines.proofs.Extensions.{loadOk, loadBytes, named-outlines, bad-load}

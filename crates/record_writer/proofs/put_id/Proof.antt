@@ -10,7 +10,7 @@ use lib.Seq.{sets, getD-take, getD-drop}
 use Rattle.varint.proofs.Writing.{fits-written}
 use Rattle.packer.proofs.Joined.{sets-step}
 use Rattle.extensions.specs.Extensions.{idAt}
-use Rattle.ids.specs.Table.{table, rowAt}
+use Rattle.ids.specs.steps.Table.{table, rowAt}
 use Rattle.ids.proofs.Table.{row-bytes, row-id, id-length}
 use Rattle.record_writer.proofs.put_id.Statement.{statement}
 use Rattle.record_writer.proofs.put_id.Tie as tie

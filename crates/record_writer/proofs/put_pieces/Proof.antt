@@ -7,7 +7,7 @@ use mathlib.Core.List.{List, _++_}
 use native.Mathlib.Omega.{arith}
 use borrow.Author.Needs.{needs}
 use lib.ListN.{length, getD, drop, length-map, drop-of-length-le}
-use Rattle.outlines.specs.Outlines.{pieceOk, pieceBytes, piecesOf, piecesOk, piecesBytes}
+use Rattle.outlines.specs.steps.Outlines.{pieceOk, pieceBytes, piecesOf, piecesOk, piecesBytes}
 use Rattle.outlines.specs.declared.Piece.{Piece}
 use Rattle.outlines.specs.declared.Piece.the-variants.{Empty}
 use Rattle.outlines.proofs.Pieces.{bytes-next, ok-next, pieces-end}

@@ -1,6 +1,6 @@
 -- `record_writer::write_record` meets its contract: the record is taken apart, and written by its outline. Assumes nothing.
 use borrow.Author.Needs.{needs}
-use Rattle.item.specs.Taken.{fromFields}
+use Rattle.item.specs.steps.Taken.{fromFields}
 use Rattle.record_writer.proofs.Whole.{outline-writes}
 use Rattle.record_writer.proofs.write_record.Statement.{statement}
 use Rattle.record_writer.proofs.write_record.Tie as tie

@@ -3,7 +3,7 @@ use mathlib.Core.Path.{_≡_, sym, _∙_, ap}
 use mir.Syntax.{w32}
 use mir.Val.{toZ, ofZ}
 use Rattle.fields.specs.declared.ArgsAnswer.the-variants as arguments
-use Rattle.records.specs.Views.{own}
+use Rattle.records.specs.steps.Views.{own}
 use Rattle.records.proofs.Commands.{no-head, command-own}
 use borrow.Author.Needs.{needs}
 use Rattle.records.proofs.console_item.Statement.{statement}

@@ -3,7 +3,7 @@ use mathlib.Core.Path.{_≡_, sym, _∙_, ap}
 use Rattle.packer.specs.declared.Part.{Part}
 use Rattle.fields.specs.Fields.{got}
 use Rattle.item.specs.Records.{Content}
-use Rattle.records.specs.Views.{own, answerIs}
+use Rattle.records.specs.steps.Views.{own, answerIs}
 use Rattle.records.specs.declared.RecordAnswer.{RecordAnswer}
 use Rattle.records.proofs.Beside.{own-record}
 use borrow.Author.Needs.{needs}

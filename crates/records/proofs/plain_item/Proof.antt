@@ -5,11 +5,11 @@ use lib.IntN.{ℤ}
 use mir.Syntax.{w32}
 use mir.Val.{SFits, toZ, ofZ}
 use mir.Facts.{toZ-ofZ}
-use Rattle.item.specs.Taken.{fromFields}
+use Rattle.item.specs.steps.Taken.{fromFields}
 use Rattle.kinds.specs.declared.Kind.{Kind}
 use Rattle.item.specs.declared.Tag.the-variants.{Plain}
 use Rattle.extension_records.proofs.Held.{held, held-same}
-use Rattle.records.specs.Views.{restCode, isShaped}
+use Rattle.records.specs.steps.Views.{restCode, isShaped}
 use Rattle.records.proofs.Rests.{not-shaped}
 use borrow.Author.Needs.{needs}
 use Rattle.records.proofs.plain_item.Statement.{statement}

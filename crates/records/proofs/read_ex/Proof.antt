@@ -1,6 +1,6 @@
 -- `records::read_ex` meets its contract. Assumes nothing.
 use mathlib.Core.Path.{_≡_, sym, _∙_, ap}
-use Rattle.extension_records.specs.Views.{exIs}
+use Rattle.extension_records.specs.steps.Views.{exIs}
 use borrow.Author.Needs.{needs}
 use Rattle.records.proofs.read_ex.Statement.{statement}
 use Rattle.records.proofs.read_ex.Tie as tie

@@ -1,7 +1,7 @@
 -- `records::read_item` meets its contract. Assumes nothing.
 use mathlib.Core.Path.{_≡_, sym, _∙_, ap}
 use Rattle.item.specs.Records.{readRest}
-use Rattle.records.specs.Views.{own}
+use Rattle.records.specs.steps.Views.{own}
 use Rattle.records.specs.declared.Rest.the-variants as rests
 use Rattle.records.proofs.Rests.{rest-told}
 use Rattle.records.proofs.Beside.{own-read}

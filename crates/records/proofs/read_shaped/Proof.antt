@@ -2,10 +2,10 @@
 use mathlib.Core.Path.{_≡_, sym, _∙_, ap}
 use Rattle.packer.specs.declared.Part.{Part}
 use Rattle.fields.specs.Fields.{got}
-use Rattle.shapes.specs.Shapes.{viewed}
+use Rattle.shapes.specs.steps.Shapes.{viewed}
 use Rattle.shapes.specs.declared.FieldsRead.the-variants as read
 use Rattle.item.specs.Records.{Content}
-use Rattle.records.specs.Views.{isShaped}
+use Rattle.records.specs.steps.Views.{isShaped}
 use Rattle.records.proofs.Rests.{shaped-read}
 use borrow.Author.Needs.{needs}
 use Rattle.records.proofs.read_shaped.Statement.{statement}

@@ -9,22 +9,22 @@ use lib.ListN.{length}
 use Rattle.varint.specs.declared.Wrote.{Wrote}
 use Rattle.packer.proofs.Joined.{nothing-put}
 use Rattle.lines.specs.Lines.{lastLine, longest, lineAnswer, lineTarget}
-use Rattle.lines.specs.Puts.{Puts}
+use Rattle.lines.specs.steps.Puts.{PutsText}
 use Rattle.lines.specs.declared.Ending.the-variants.{TooLong}
 use Rattle.lines.proofs.Texts.{same-text}
 use Rattle.calls.specs.Calls.{wantsMore}
-use Rattle.row_lines.specs.RowLines.{pastOr}
+use Rattle.row_lines.specs.steps.RowLines.{pastOr}
 use Rattle.replayer.specs.Replay.{tooLong, endingOf}
 use Rattle.row_lines.proofs.FromRows.{puts-of}
 use Rattle.replayer.proofs.put_ending.Statement.{statement}
 use Rattle.replayer.proofs.put_ending.Tie as tie
 
 last-put : (xs : List ℕ) (at : ℕ) (line : List ℕ) → at + longest ≤ length xs → (next : ℕ) (ys : List ℕ) (w : Wrote) → next ≡ pastOr w at
-    → (w ≡ lineAnswer xs at line) × (ys ≡ lineTarget xs at line) → Puts xs at line next ys
+    → (w ≡ lineAnswer xs at line) × (ys ≡ lineTarget xs at line) → PutsText xs at line next ys
 last-put xs at line h next ys w e p =
     puts-of longest xs at line next ys h (e ∙ ap (λ (w : Wrote). pastOr w at) (p .0), p .1)
 
-no-line : (xs : List ℕ) (at : ℕ) → at + longest ≤ length xs → Puts xs at [] at xs
+no-line : (xs : List ℕ) (at : ℕ) → at + longest ≤ length xs → PutsText xs at [] at xs
 no-line xs at h = (omega arith, nothing-put xs at (omega arith))
 
 -- after more: the line of a window that is too long, or none

@@ -10,7 +10,7 @@ use Rattle.state.specs.State.{memory}
 use Rattle.state.specs.Reading.{withRest}
 use Rattle.state.specs.Views.{slimStep}
 use Rattle.state.proofs.Numbers.{Three}
-use Rattle.rests.specs.Kinds.{pairKind}
+use Rattle.rests.specs.steps.Kinds.{pairKind}
 use Rattle.rests.proofs.Rests.{pairStep, pair-out, pair-got}
 use Rattle.rests.proofs.with_pair.Statement.{statement}
 use Rattle.rests.proofs.with_pair.Tie as tie

@@ -9,7 +9,7 @@ use mir.Syntax.{w32}
 use mir.Val.{toZ, ofZ}
 use Rattle.varint.specs.declared.Wrote.{Wrote}
 use Rattle.state.proofs.Numbers.{element}
-use Rattle.row_lines.specs.RowLines.{pastOr}
+use Rattle.row_lines.specs.steps.RowLines.{pastOr}
 use Rattle.row_lines.proofs.put_input.Statement.{statement}
 use Rattle.row_lines.proofs.put_input.Tie as tie
 

@@ -2,7 +2,7 @@
 use mathlib.Core.Path.{_∙_, ap}
 use borrow.Author.Needs.{needs}
 use Rattle.varint.specs.declared.Wrote.{Wrote}
-use Rattle.row_lines.specs.RowLines.{pastOr}
+use Rattle.row_lines.specs.steps.RowLines.{pastOr}
 use Rattle.row_lines.proofs.put_part.Statement.{statement}
 use Rattle.row_lines.proofs.put_part.Tie as tie
 

@@ -10,7 +10,7 @@ use Rattle.num.specs.Wrap.{wrap32}
 use Rattle.state.specs.Reading.{Event}
 use Rattle.state.proofs.Numbers.{back}
 use Rattle.rows.specs.Rows.{eventRow, eventTens}
-use Rattle.rows.specs.Stores.{place, EventPut}
+use Rattle.rows.specs.steps.Stores.{place, EventPut}
 use Rattle.rows.proofs.Puts.{place-none}
 use Rattle.rows.proofs.put_event.Statement.{statement}
 use Rattle.rows.proofs.put_event.Tie as tie

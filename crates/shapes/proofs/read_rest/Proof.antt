@@ -7,7 +7,7 @@ use mir.Val.{toZ, ofZ}
 use Rattle.varint.specs.Integers.{readInt}
 use Rattle.packer.specs.Parts.{readString, readData}
 use Rattle.fields.specs.Fields.{num, bytes, push}
-use Rattle.shapes.specs.Shapes.{idPart, isNothing}
+use Rattle.shapes.specs.steps.Shapes.{idPart, isNothing}
 use Rattle.shapes.specs.declared.Shape.the-variants.{IntInt, IntStr, IntIntStr, IntUuidStr, IntUuidIntStr, IntData}
 use Rattle.shapes.proofs.Kept.{id-kept, by-int, by-part}
 use Rattle.shapes.proofs.read_rest.Statement.{statement}

@@ -1,11 +1,11 @@
 -- `state::refuse` meets its contract. Assumes nothing.
-use Rattle.state.specs.Reading.{refusal}
+use Rattle.state.specs.Reading.{refusalStep}
 use borrow.Author.Needs.{needs}
 use Rattle.state.proofs.refuse.Statement.{statement}
 use Rattle.state.proofs.refuse.Tie as tie
 
 returns : tie.Need-returns
-unfolding refusal
+unfolding refusalStep
 returns c m = rw (c .closed .ensures)
 
 pub refuse-spec : {M : Type 1} → statement M

@@ -1,0 +1,32 @@
+-- What the functions store, and what stands in rows of an event that was seen.
+use Prim.Native.Nat.{ℕ, suc, _*_, _/_}
+use mathlib.Core.Path.{_≡_}
+use mathlib.Core.Bool.{cond}
+use mathlib.Core.List.{List, [], _∷_}
+use lib.Dec.{ltb}
+use lib.ListN.{length, take, drop}
+use lib.IntN.{ℤ, pos}
+use Rattle.num.specs.Wrap.{wrap32}
+use Rattle.state.specs.Reading.{Event}
+use Rattle.calls.specs.Calls.{Seen}
+use Rattle.rows.specs.Rows.{eventRow, rowOf, eventTens, tensOf, put}
+
+-- block i of a memory of blocks of k numbers, if it has so many
+abbrev pub place : ℕ → ℕ → List ℤ → List ℤ → List ℤ
+place k i ns mem = cond (ltb i (length mem / k)) (put mem (k * i) ns) mem
+
+-- event i, whose call used so many bytes, is in its places
+pub record EventPut (e : Event) (used : ℕ) (pending : ℤ) (i : ℕ) (ten former rows₀ tens₀ rows₁ tens₁ : List ℤ) : Type 0 where
+  pub rows : rows₁ ≡ place 8 i (eventRow e (wrap32 (pos used)) pending) rows₀
+  pub tens : tens₁ ≡ place 20 i (eventTens e ten former) tens₀
+
+-- row i tells of an event that was seen, and so do its twenty numbers
+pub record InRow (x : Seen) (i : ℕ) (rows tens : List ℤ) : Type 0 where
+  pub row : take 8 (drop (8 * i) rows) ≡ rowOf x
+  pub twenty : take (length (tensOf x)) (drop (20 * i) tens) ≡ tensOf x
+  pub ten : length (x .ten) ≡ 10
+
+-- the rows from i on tell of events one behind the other
+unfoldable pub AllInRows : ℕ → List Seen → List ℤ → List ℤ → Type 0
+AllInRows i [] rows tens = Unit {0}
+AllInRows i (x ∷ xs) rows tens = InRow x i rows tens × AllInRows (suc i) xs rows tens
