@@ -19,26 +19,8 @@ use Rattle.state.specs.declared.Entries.{Entries}
 use Rattle.state.specs.declared.Scalars.{Scalars}
 use Rattle.state.specs.declared.Reader.{Reader}
 use Rattle.state.proofs.Acts.{ten-numbers, read-acts}
-use Rattle.calls.specs.Calls.{
-  Call,
-  call,
-  Seen,
-  isPending,
-  seenBy,
-  seenIn,
-  after,
-  events,
-  Halt,
-  isFull,
-  wantsMore,
-  finishes,
-  isRefused,
-  Run,
-  before,
-  onSaid,
-  along,
-  enough,
-}
+use Rattle.calls.specs.Calls.{Call, call, Seen, isPending, seenBy, seenIn, after, events}
+use Rattle.calls.specs.Along.{Halt, isFull, wantsMore, finishes, isRefused, Run, before, onSaid, along, enough}
 use Rattle.calls.specs.Laws.{lastFirst, IsList, RunsAreLists, continued, RunsSplit, FewEvents, TensBeside, RunTens, Within, EventsOfFew}
 use Rattle.calls.proofs.Singles.{uses-within, call-within}
 use Rattle.calls.proofs.Ranks.{rank, rank-le, call-falls}

@@ -8,7 +8,8 @@ use Rattle.item.specs.Said.{Said, gives, more, finish, refuses}
 use Rattle.state.specs.Reading.{Event, readCall, readerAfter}
 use Rattle.state.specs.Laws.{usedIn}
 use Rattle.state.specs.declared.Reader.{Reader}
-use Rattle.calls.specs.Calls.{Call, Seen, after, events, Halt, isFull, wantsMore, finishes, isRefused, Run, along, enough}
+use Rattle.calls.specs.Calls.{Call, Seen, after, events}
+use Rattle.calls.specs.Along.{Halt, isFull, wantsMore, finishes, isRefused, Run, along, enough}
 
 -- ---- one call
 

@@ -10,7 +10,7 @@ use Rattle.kinds.specs.declared.Version.{Version}
 use Rattle.state.specs.State.{emptyReader}
 use Rattle.state.specs.Reading.{Event, readCall, readerAfter}
 use Rattle.state.specs.declared.Reader.{Reader}
-use Rattle.calls.specs.Calls.{along, allOf, calls}
+use Rattle.calls.specs.Along.{along, allOf, calls}
 use Rattle.calls.specs.Laws.{Within}
 use Rattle.calls.proofs.Theorems.{events-of-few}
 use Rattle.calls.proofs.Runs.{follow}

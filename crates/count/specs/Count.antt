@@ -8,7 +8,7 @@ use Rattle.kinds.specs.declared.Version.{Version}
 use Rattle.kinds.specs.declared.Version.the-variants.{V1, V2}
 use Rattle.state.specs.State.{emptyReader}
 use Rattle.state.specs.Reading.{Event}
-use Rattle.calls.specs.Calls.{calls, enough}
+use Rattle.calls.specs.Along.{calls, enough}
 use Rattle.count.specs.declared.Used.{Used}
 use Rattle.count.specs.declared.Used.the-variants.{Bytes, NoEvent}
 

@@ -10,7 +10,7 @@ use lib.Seq.{drop-drop}
 use Rattle.kinds.specs.declared.Version.{Version}
 use Rattle.state.specs.State.{emptyReader}
 use Rattle.state.specs.declared.Reader.{Reader}
-use Rattle.calls.specs.Calls.{Halt, isFull, wantsMore, finishes, isRefused, Run, allOf, calls}
+use Rattle.calls.specs.Along.{Halt, isFull, wantsMore, finishes, isRefused, Run, allOf, calls}
 use Rattle.calls.specs.Laws.{continued}
 use Rattle.calls.proofs.Theorems.{runs-split, few-events, run-within}
 use Rattle.rows.specs.Rows.{room}

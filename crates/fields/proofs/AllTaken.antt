@@ -9,7 +9,8 @@ use Rattle.varint.specs.Laws.{Bytes}
 use Rattle.packer.specs.declared.Part.{Part}
 use Rattle.fields.specs.Fields.{Field, Value, Reading, got, runsOut, refused, readField, push, andThen, readFields, mean}
 use Rattle.fields.specs.Remarks.{fieldRemark, remarks}
-use Rattle.fields.specs.Writing.{AllSorted, writable, allWritable, writeField, writeFields, valueInside, partsInside}
+use Rattle.fields.specs.Writing.{writeField, writeFields, valueInside, partsInside}
+use Rattle.fields.specs.Forms.{AllSorted, writable, allWritable}
 use Rattle.fields.specs.Laws.{isOut}
 use Rattle.fields.proofs.Steady.{all-steady}
 use Rattle.fields.proofs.Answers.{not-out, not-refused, same-got, and-both}

@@ -53,7 +53,8 @@ use Rattle.fields.specs.Fields.{
   mean,
 }
 use Rattle.fields.specs.Remarks.{remarkCount, fieldRemark}
-use Rattle.fields.specs.Writing.{Sorted, writable, writeField, allNoZero, stringsBytes, valueInside}
+use Rattle.fields.specs.Writing.{writeField, allNoZero, stringsBytes, valueInside}
+use Rattle.fields.specs.Forms.{Sorted, writable}
 use Rattle.fields.proofs.Answers.{not-out, not-refused, same-got, and-both}
 use Rattle.fields.proofs.Strings.{args-had, string-inside}
 

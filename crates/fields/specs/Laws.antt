@@ -8,7 +8,8 @@ use Rattle.varint.specs.Laws.{Bytes, Steady, Shorter}
 use Rattle.packer.specs.declared.Part.{Part}
 use Rattle.fields.specs.Fields.{Field, Value, Reading, got, runsOut, refused, readFields, mean, means}
 use Rattle.fields.specs.Remarks.{remarks}
-use Rattle.fields.specs.Writing.{AllSorted, allWritable, writeFields}
+use Rattle.fields.specs.Writing.{writeFields}
+use Rattle.fields.specs.Forms.{AllSorted, allWritable}
 
 -- written and read again: the same meaning, exactly the written bytes used, no remark, whatever stands before and after
 abbrev pub FieldsWrittenReads : Type 0

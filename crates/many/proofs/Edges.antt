@@ -13,7 +13,8 @@ use Rattle.state.specs.State.{goodReader}
 use Rattle.state.specs.Reading.{Step, stepOf, openCall, goodCall, memoryOf, readCall, readerAfter}
 use Rattle.state.specs.declared.Reader.{Reader}
 use Rattle.state.proofs.Numbers.{picks-first, picks-second}
-use Rattle.calls.specs.Calls.{Run, isPending, seenBy, before, onSaid, along, calls}
+use Rattle.calls.specs.Calls.{isPending, seenBy}
+use Rattle.calls.specs.Along.{Run, before, onSaid, along, calls}
 use Rattle.rows.specs.Rows.{room}
 use Rattle.many.specs.Many.{refusedBy, manyCalls, ManyIs}
 use Rattle.many.specs.steps.Stores.{Room, notRead}

@@ -23,7 +23,8 @@ use Rattle.state.specs.declared.Outcome.{Outcome}
 use Rattle.state.proofs.Every.{by-cond}
 use Rattle.state.proofs.Numbers.{picks-first}
 use Rattle.state.proofs.Theorems.{open-call-keeps, readers-stay-sound}
-use Rattle.calls.specs.Calls.{Seen, Halt, wantsMore, finishes, isRefused, Run, isPending, seenBy, stopped, before, onSaid, along, calls}
+use Rattle.calls.specs.Calls.{Seen, isPending, seenBy}
+use Rattle.calls.specs.Along.{Halt, wantsMore, finishes, isRefused, Run, stopped, before, onSaid, along, calls}
 use Rattle.rows.specs.Rows.{flag, eventRow, rowOf, eventTens, tensOf, put, rowsFrom, tensFrom}
 use Rattle.many.specs.Many.{haltOf, ManyIs}
 use Rattle.rows.specs.steps.Stores.{EventPut}

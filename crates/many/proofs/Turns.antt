@@ -16,7 +16,8 @@ use Rattle.state.specs.declared.Scalars.{Scalars}
 use Rattle.state.specs.declared.Event as code
 use Rattle.state.specs.declared.Answer.the-variants as answers
 use Rattle.state.specs.declared.Outcome.{Outcome}
-use Rattle.calls.specs.Calls.{Run, isPending, along, calls}
+use Rattle.calls.specs.Calls.{isPending}
+use Rattle.calls.specs.Along.{Run, along, calls}
 use Rattle.rows.specs.Rows.{flag}
 use Rattle.many.specs.Many.{ManyIs}
 use Rattle.rows.specs.steps.Stores.{EventPut}

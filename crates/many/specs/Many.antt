@@ -10,7 +10,7 @@ use Rattle.refusal.specs.declared.Refusal.{Refusal}
 use Rattle.refusal.specs.declared.Refusal.the-variants.{BadState, Closed}
 use Rattle.state.specs.State.{goodReader}
 use Rattle.state.specs.declared.Reader.{Reader}
-use Rattle.calls.specs.Calls.{Halt, isFull, wantsMore, finishes, isRefused, Run, stopped, calls}
+use Rattle.calls.specs.Along.{Halt, isFull, wantsMore, finishes, isRefused, Run, stopped, calls}
 use Rattle.rows.specs.Rows.{rowsFrom, tensFrom}
 use Rattle.many.specs.declared.Stop.{Stop}
 use Rattle.many.specs.declared.Stop.the-variants as stops

@@ -4,7 +4,7 @@ ghost use mathlib.Core.Bool.{true};
 ghost use Prim.Native.Nat.{_/_, min};
 ghost use Rattle.state.specs.State.{entriesWith, readerWith, goodReader};
 ghost use Rattle.state.specs.Laws.{Sound};
-ghost use Rattle.calls.specs.Calls.{calls};
+ghost use Rattle.calls.specs.Along.{calls};
 ghost use Rattle.rows.specs.Rows.{room};
 ghost use Rattle.many.specs.Many.{manyCalls, ManyIs};
 ghost use Rattle.many.specs.steps.Stores.{Room, rowsRead, answerOf, notRead};

@@ -13,7 +13,8 @@ use Rattle.packer.specs.Parts.{shown}
 use Rattle.packer.specs.Texts.{noZero, isData}
 use Rattle.packer.specs.declared.Part.{Part}
 use Rattle.fields.specs.Fields.{Value, mean}
-use Rattle.fields.specs.Writing.{allWritable, writeFields, inside, partsInside}
+use Rattle.fields.specs.Writing.{writeFields, inside, partsInside}
+use Rattle.fields.specs.Forms.{allWritable}
 use Rattle.fields.specs.declared.Args.{Args}
 use Rattle.shapes.specs.steps.Shapes.{fieldsIn, idPart, valuesIn}
 use Rattle.shapes.specs.declared.Shape.{Shape}
@@ -26,7 +27,8 @@ use Rattle.item.specs.steps.Taken.{fromFields}
 use Rattle.kinds.specs.declared.Version.{Version}
 use Rattle.kinds.specs.declared.Version.the-variants.{V1, V2}
 use Rattle.item.specs.declared.Tag.the-variants.{Named, Other}
-use Rattle.written.specs.Written.{payloadBytes, exBytes, payloadWritable}
+use Rattle.written.specs.Written.{payloadBytes, exBytes}
+use Rattle.written.specs.Form.{payloadWritable}
 use Rattle.extensions.specs.steps.Layouts.{payloadIs}
 use Rattle.extensions.specs.declared.Layout.{Layout}
 use Rattle.extensions.specs.declared.Layout.the-variants as layouts

@@ -16,7 +16,8 @@ use Rattle.packer.specs.Texts.{noZero}
 use Rattle.packer.specs.declared.Part.{Part}
 use Rattle.fields.specs.Fields.{int, num, mean}
 use Rattle.fields.specs.Views.{tenFields}
-use Rattle.fields.specs.Writing.{stringsBytes, allNoZero, allWritable, writeFields, inside, allInside}
+use Rattle.fields.specs.Writing.{stringsBytes, allNoZero, writeFields, inside, allInside}
+use Rattle.fields.specs.Forms.{allWritable}
 use Rattle.outlines.specs.steps.Outlines.{piecesBytes, piecesOk, numberPieces}
 use Rattle.outlines.specs.declared.Piece.the-variants.{Str}
 

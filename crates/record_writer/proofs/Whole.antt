@@ -11,7 +11,8 @@ use Rattle.item.specs.Records.{Content}
 use Rattle.item.specs.Contents.{itemOf}
 use Rattle.kinds.specs.declared.Version.{Version}
 use Rattle.item.specs.declared.Record.{Record}
-use Rattle.written.specs.Written.{writeContent, contentWritable, hasForm, recordBytes}
+use Rattle.written.specs.Written.{writeContent, recordBytes}
+use Rattle.written.specs.Form.{contentWritable, hasForm}
 use Rattle.written.specs.Unwritable.{recordWritable, Writes}
 use Rattle.written.proofs.Unwritable.{writable-is-form}
 use Rattle.outlines.specs.steps.Outlines.{piecesOf, piecesOk, piecesBytes, contentOk, contentBytes, Outlines}

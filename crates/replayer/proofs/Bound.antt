@@ -8,7 +8,7 @@ use lib.ListN.{length-take}
 use Rattle.kinds.specs.declared.Version.{Version}
 use Rattle.state.specs.State.{emptyReader}
 use Rattle.state.specs.declared.Reader.{Reader}
-use Rattle.calls.specs.Calls.{Run, enough}
+use Rattle.calls.specs.Along.{Run, enough}
 use Rattle.calls.specs.Laws.{Within}
 use Rattle.calls.proofs.Theorems as calls
 use Rattle.row_lines.specs.Text.{textOf}

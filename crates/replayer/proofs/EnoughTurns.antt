@@ -9,7 +9,8 @@ use Rattle.num.proofs.Cases.{by-bool}
 use Rattle.item.specs.Said.{Said, gives, more, finish, refuses}
 use Rattle.state.specs.Reading.{Event, readCall, readerAfter}
 use Rattle.state.specs.declared.Reader.{Reader}
-use Rattle.calls.specs.Calls.{isPending, along, Seen, Halt, isFull, wantsMore, finishes, isRefused, Run, seenBy, before, onSaid, calls}
+use Rattle.calls.specs.Calls.{isPending, Seen, seenBy}
+use Rattle.calls.specs.Along.{along, Halt, isFull, wantsMore, finishes, isRefused, Run, before, onSaid, calls}
 use Rattle.replayer.specs.Replay.{full, windowOf, isShort, isLastWindow, ends}
 use Rattle.replayer.specs.Laws.{Arrived, some, all, atHand, hasEnded, Turn, runOf, short, over, turnsEnd, haveAll, EnoughTurns}
 use Rattle.calls.proofs.Singles.{uses-within, more-leaves}

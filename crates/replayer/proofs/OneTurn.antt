@@ -13,8 +13,9 @@ use Rattle.num.proofs.Cases.{by-bool}
 use Rattle.varint.specs.Written.{written}
 use Rattle.packer.proofs.Joined.{written-length, two-puts}
 use Rattle.state.specs.declared.Reader.{Reader}
-use Rattle.calls.specs.Calls.{along, Seen, Halt, isFull, wantsMore, finishes, isRefused, Run}
-use Rattle.calls.specs.Calls.{allOf}
+use Rattle.calls.specs.Calls.{Seen}
+use Rattle.calls.specs.Along.{along, Halt, isFull, wantsMore, finishes, isRefused, Run}
+use Rattle.calls.specs.Along.{allOf}
 use Rattle.calls.specs.Laws.{TensBeside}
 use Rattle.calls.proofs.Theorems.{few-events, run-tens}
 use Rattle.rows.specs.Rows.{room, rowsFrom, tensFrom}

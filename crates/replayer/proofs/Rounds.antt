@@ -11,7 +11,8 @@ use Rattle.item.specs.Said.{Said, gives, more, finish, refuses}
 use Rattle.state.specs.State.{emptyReader}
 use Rattle.state.specs.Reading.{Event, readCall, readerAfter}
 use Rattle.state.specs.declared.Reader.{Reader}
-use Rattle.calls.specs.Calls.{isPending, along, Seen, Run, seenBy, before, onSaid, calls}
+use Rattle.calls.specs.Calls.{isPending, Seen, seenBy}
+use Rattle.calls.specs.Along.{along, Run, before, onSaid, calls}
 use Rattle.replayer.specs.Replay.{full, windowOf, isShort, isLastWindow, ends, wants, runText, turnRun, replayFrom}
 use Rattle.replayer.specs.Laws.{some, all, AllPrinted}
 use Rattle.replayer.specs.Rounds.{Input, inputAfter, roundOf, lastRound, wantsRead, roundsText, allPieces, RoundsPrintText}

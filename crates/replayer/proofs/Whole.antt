@@ -13,7 +13,8 @@ use Rattle.num.proofs.Cases.{by-bool}
 use Rattle.item.specs.Said.{Said, gives, more, finish, refuses}
 use Rattle.state.specs.Reading.{Event, Step, readCall, readerAfter}
 use Rattle.state.specs.declared.Reader.{Reader}
-use Rattle.calls.specs.Calls.{isPending, along, Seen, Halt, isFull, wantsMore, finishes, isRefused, Run, seenBy, before, onSaid, calls}
+use Rattle.calls.specs.Calls.{isPending, Seen, seenBy}
+use Rattle.calls.specs.Along.{along, Halt, isFull, wantsMore, finishes, isRefused, Run, before, onSaid, calls}
 use Rattle.lines.specs.Lines.{lineOf, lastLine, plainLine, refusedWord}
 use Rattle.lines.specs.declared.Ending.the-variants.{Finish, TooLong}
 use Rattle.replayer.specs.Replay.{full, windowOf, isShort, isLastWindow, ends, endingOf, wants, turnRun, windowCall, replayFrom}

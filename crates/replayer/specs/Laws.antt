@@ -9,7 +9,7 @@ use Rattle.kinds.specs.declared.Version.{Version}
 use Rattle.state.specs.State.{emptyReader}
 use Rattle.state.specs.Reading.{readCall}
 use Rattle.state.specs.declared.Reader.{Reader}
-use Rattle.calls.specs.Calls.{Run, enough}
+use Rattle.calls.specs.Along.{Run, enough}
 use Rattle.replayer.specs.Replay.{isShort, ends, wants, runText, turnRun, replayFrom, replayText}
 
 -- ---- a turn on what has arrived of what is left of a body

@@ -10,7 +10,8 @@ use Rattle.kinds.specs.declared.Version.{Version}
 use Rattle.state.specs.State.{emptyReader}
 use Rattle.state.specs.declared.Reader.{Reader}
 use Rattle.rows.specs.Rows.{rowsFrom, tensFrom, room}
-use Rattle.calls.specs.Calls.{Call, along, enough, Halt, isFull, wantsMore, finishes, isRefused, Run, calls}
+use Rattle.calls.specs.Calls.{Call}
+use Rattle.calls.specs.Along.{along, enough, Halt, isFull, wantsMore, finishes, isRefused, Run, calls}
 use Rattle.lines.specs.Lines.{lastLine, plainLine, refusedWord, longest}
 use Rattle.lines.specs.declared.Ending.the-variants.{Finish, TooLong}
 use Rattle.row_lines.specs.Text.{textOf}

@@ -8,7 +8,7 @@ use lib.ListN.{length, drop}
 use Rattle.kinds.specs.declared.Version.{Version}
 use Rattle.state.specs.State.{emptyReader}
 use Rattle.state.specs.declared.Reader.{Reader}
-use Rattle.calls.specs.Calls.{Run, enough}
+use Rattle.calls.specs.Along.{Run, enough}
 use Rattle.replayer.specs.Replay.{isShort, ends, wants, runText, turnRun, replayText}
 
 -- the bytes at hand, whether the input has ended, and the pieces that the next reads give

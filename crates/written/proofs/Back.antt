@@ -13,7 +13,8 @@ use Rattle.varint.specs.Written.{canonical}
 use Rattle.packer.specs.Texts.{isData, dataBytes}
 use Rattle.packer.proofs.Places.{past, past-within}
 use Rattle.fields.specs.Fields.{Field, uuid, blob, Value, num, bytes, strings, got}
-use Rattle.fields.specs.Writing.{AllSorted, allWritable, writeFields}
+use Rattle.fields.specs.Writing.{writeFields}
+use Rattle.fields.specs.Forms.{AllSorted, allWritable}
 use Rattle.fields.proofs.Answers.{and-split}
 use Rattle.fields.proofs.Back.{all-back}
 use Rattle.extensions.specs.Extensions.{Payload, shaped, allData, idAt, payloadAt, find, isUnknown}
@@ -28,7 +29,8 @@ use Rattle.kinds.specs.declared.Kind.the-variants as kinds
 use Rattle.item.specs.declared.Tag.{Tag}
 use Rattle.item.specs.declared.Tag.the-variants.{Plain, Named, Other}
 use Rattle.ids.proofs.Table.{id-found, id-length}
-use Rattle.written.specs.Written.{kindBytes, allFields, firstBytes, secondBytes, payloadBytes, exBytes, tagBytes, hasEx, kindWritable, payloadWritable, tagWritable}
+use Rattle.written.specs.Written.{kindBytes, allFields, firstBytes, secondBytes, payloadBytes, exBytes, tagBytes, hasEx}
+use Rattle.written.specs.Form.{kindWritable, payloadWritable, tagWritable}
 use Rattle.written.specs.Laws.{meant, kindNumbers}
 use Rattle.written.proofs.KindLaws.{Allowed, ex-only, kind-back}
 use Rattle.written.proofs.Frames.{ex-split, loadAt, endAt, idPart, loadPart, Frame, framed}

@@ -31,7 +31,8 @@ use Rattle.kinds.specs.declared.Version.{Version}
 use Rattle.kinds.specs.declared.Version.the-variants.{V1, V2}
 use Rattle.kinds.specs.declared.Kind.{Kind}
 use Rattle.kinds.specs.declared.Kind.the-variants as kinds
-use Rattle.written.specs.Written.{clientBytes, kindBytes, hasEx, kindWritable}
+use Rattle.written.specs.Written.{clientBytes, kindBytes, hasEx}
+use Rattle.written.specs.Form.{kindWritable}
 use Rattle.written.specs.Laws.{kindNumbers}
 
 -- ---- what a number says

@@ -12,7 +12,8 @@ use Rattle.packer.specs.Parts.{shown}
 use Rattle.packer.specs.declared.Part.{Part}
 use Rattle.fields.specs.Fields.{int, mask, str, args, Value, strings, got, mean}
 use Rattle.fields.specs.Views.{argsWith}
-use Rattle.fields.specs.Writing.{allNoZero, writable, allWritable, partsInside}
+use Rattle.fields.specs.Writing.{allNoZero, partsInside}
+use Rattle.fields.specs.Forms.{writable, allWritable}
 use Rattle.fields.proofs.Answers.{and-both, and-split}
 use Rattle.item.specs.Records.{meaning, readRecord, recordRemarks}
 use Rattle.item.specs.Contents.{itemOf, ownFields, beside, recordOf, tidyKind, tidyTag, tidyRecord}
@@ -23,7 +24,8 @@ use Rattle.item.specs.declared.Tag.{Tag}
 use Rattle.item.specs.declared.Tag.the-variants.{Plain, Named, Other}
 use Rattle.item.specs.declared.Record.{Record}
 use Rattle.item.proofs.Lengths.{lengths}
-use Rattle.written.specs.Written.{tagWritable, contentWritable, argCount, tagCount, hasForm, recordBytes}
+use Rattle.written.specs.Written.{argCount, tagCount, recordBytes}
+use Rattle.written.specs.Form.{tagWritable, contentWritable, hasForm}
 use Rattle.written.proofs.Whole.{record-same}
 
 -- the strings behind three other values are at most 16

@@ -16,7 +16,8 @@ use Rattle.packer.specs.Texts.{noZero, isData}
 use Rattle.packer.specs.declared.Part.{Part}
 use Rattle.fields.specs.Fields.{Field, int, Value, num, mean}
 use Rattle.fields.specs.Views.{tenFields}
-use Rattle.fields.specs.Writing.{allNoZero, allWritable, inside, allInside, partsInside}
+use Rattle.fields.specs.Writing.{allNoZero, inside, allInside, partsInside}
+use Rattle.fields.specs.Forms.{allWritable}
 use Rattle.fields.specs.declared.Args.{Args}
 use Rattle.shapes.specs.steps.Shapes.{idPart}
 use Rattle.extensions.specs.Extensions.{extensionRow, payloadAt, find, isUnknown}
@@ -27,7 +28,8 @@ use Rattle.kinds.specs.declared.Version.{Version}
 use Rattle.item.specs.declared.Item.{Item}
 use Rattle.item.specs.declared.Item.the-variants as items
 use Rattle.item.specs.declared.Record.{Record}
-use Rattle.written.specs.Written.{payloadBytes, hasEx, contentWritable, hasForm}
+use Rattle.written.specs.Written.{payloadBytes, hasEx}
+use Rattle.written.specs.Form.{contentWritable, hasForm}
 use Rattle.written.specs.Unwritable.{someOf, isLargeDt, holdsZero, isLongData, recordValues, recordWritable}
 
 -- ---- tests put together in another order

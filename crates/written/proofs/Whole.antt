@@ -16,7 +16,8 @@ use Rattle.packer.specs.declared.PartRead.{PartRead}
 use Rattle.packer.specs.declared.PartRead.the-variants as parts
 use Rattle.fields.specs.Fields.{Field, uuid, blob, Value, bytes, Reading, got, runsOut, refused, readFields, mean}
 use Rattle.fields.specs.Remarks.{remarkIn, remarks}
-use Rattle.fields.specs.Writing.{allWritable, writeFields, inside, partsInside}
+use Rattle.fields.specs.Writing.{writeFields, inside, partsInside}
+use Rattle.fields.specs.Forms.{allWritable}
 use Rattle.fields.proofs.Answers.{not-out, not-refused, same-got, and-both}
 use Rattle.fields.proofs.Taken.{field-taken}
 use Rattle.fields.proofs.AllTaken.{fields-taken}
@@ -31,7 +32,8 @@ use Rattle.kinds.specs.declared.Kind.{Kind}
 use Rattle.kinds.specs.declared.Kind.the-variants as kinds
 use Rattle.item.specs.declared.Tag.the-variants.{Plain, Named, Other}
 use Rattle.ids.proofs.Find.{found-is}
-use Rattle.written.specs.Written.{kindBytes, payloadBytes, exBytes, writeContent, hasEx, kindWritable, payloadWritable, contentWritable}
+use Rattle.written.specs.Written.{kindBytes, payloadBytes, exBytes, writeContent, hasEx}
+use Rattle.written.specs.Form.{kindWritable, payloadWritable, contentWritable}
 use Rattle.written.specs.Laws.{Same}
 use Rattle.written.proofs.Windows.{front, bytes-take, values-inside}
 use Rattle.written.proofs.KindLaws.{KindTaken, ex-only, kind-taken}

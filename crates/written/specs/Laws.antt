@@ -9,7 +9,8 @@ use mir.Val.{SFits}
 use Rattle.varint.specs.Laws.{Bytes, Steady, Shorter}
 use Rattle.packer.specs.declared.Part.{Part}
 use Rattle.fields.specs.Fields.{Field, uuid, blob, Value, Reading, got, runsOut, refused}
-use Rattle.fields.specs.Writing.{SortsOf, partsInside}
+use Rattle.fields.specs.Writing.{partsInside}
+use Rattle.fields.specs.Forms.{SortsOf}
 use Rattle.fields.specs.Laws.{isOut}
 use Rattle.item.specs.Said.{gives, more}
 use Rattle.extensions.specs.Extensions.{payloadAt}
@@ -21,7 +22,8 @@ use Rattle.kinds.specs.declared.Kind.{Kind}
 use Rattle.item.specs.declared.Tag.{Tag}
 use Rattle.item.specs.declared.Tag.the-variants.{Plain, Named, Other}
 use Rattle.item.specs.declared.Record.{Record}
-use Rattle.written.specs.Written.{allFields, writeContent, contentWritable, hasForm, recordBytes}
+use Rattle.written.specs.Written.{allFields, writeContent, recordBytes}
+use Rattle.written.specs.Form.{contentWritable, hasForm}
 use Rattle.written.specs.Unwritable.{recordWritable}
 
 abbrev pub meant : List ℕ → Reading (Content Part) → Reading (Content (List ℕ))

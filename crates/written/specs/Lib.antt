@@ -1,3 +1,4 @@
 pub mod Written
+pub mod Form
 pub mod Unwritable
 pub mod Laws

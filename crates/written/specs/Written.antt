@@ -1,35 +1,17 @@
 -- The written form of a record, and which records have one. docs/FORMAT.md, "The writer".
 use Prim.Native.Nat.{ℕ}
-use mathlib.Core.Bool.{Bool, true, false, _&&_}
 use mathlib.Core.List.{List, [], _∷_, _++_}
-use lib.Dec.{leb}
 use lib.IntN.{negsuc}
-use lib.Signed.{nonNeg}
 use Rattle.varint.specs.Written.{canonical}
-use Rattle.packer.specs.Texts.{isData, dataBytes}
+use Rattle.packer.specs.Texts.{dataBytes}
 use Rattle.fields.specs.Fields.{Field, Value, onBytes}
-use Rattle.fields.specs.Writing.{allWritable, writeFields, partsInside}
+use Rattle.fields.specs.Writing.{writeFields}
 use Rattle.fields.specs.declared.Args.{Args}
-use Rattle.kinds.specs.Kinds.{
-  Client,
-  nowhere,
-  isNumber,
-  following,
-  leading,
-  Beside,
-  nothing,
-  ten,
-  arguments,
-  ofExtension,
-  kindRow,
-  kindNumber,
-}
-use Rattle.extensions.specs.Extensions.{Payload, shaped, allData, idAt, payloadAt, find, isUnknown}
+use Rattle.kinds.specs.Kinds.{Client, nowhere, isNumber, following, leading, Beside, nothing, ten, arguments, ofExtension, kindRow, kindNumber}
+use Rattle.extensions.specs.Extensions.{Payload, shaped, allData, idAt, payloadAt}
 use Rattle.item.specs.Records.{Content, meaning, Rest, fields, extension, restOf}
 use Rattle.item.specs.Contents.{recordOf}
 pub use Rattle.kinds.specs.Kinds.{hasEx}
-use Rattle.kinds.specs.declared.Version.{Version}
-use Rattle.kinds.specs.declared.Version.the-variants.{V1, V2}
 use Rattle.kinds.specs.declared.Kind.{Kind}
 use Rattle.item.specs.declared.Tag.{Tag}
 use Rattle.item.specs.declared.Tag.the-variants.{Plain, Named, Other}
@@ -78,37 +60,6 @@ tagBytes Other vs = exBytes (firstBytes vs) (secondBytes vs)
 unfoldable pub writeContent : Content (List ℕ) → List ℕ
 writeContent c = tagBytes (c .tag) (c .values)
 
--- ---- which have one, by the structure of records; specs/Unwritable.antt has the tests for the others
-
--- a client that is the kind's number is none below 0
-abbrev pub clientWritable : Client → Bool
-clientWritable nowhere = true
-clientWritable (isNumber c) = nonNeg c
-clientWritable (following c) = true
-clientWritable leading = true
-
--- an extension is written by its identifier
-abbrev pub besideWritable : Beside → Bool
-besideWritable nothing = true
-besideWritable ten = true
-besideWritable arguments = true
-besideWritable ofExtension = false
-
-abbrev pub kindWritable : Kind → Bool
-kindWritable k = besideWritable (kindRow k .beside) && clientWritable (kindRow k .client)
-
-abbrev pub payloadWritable : Payload → List (Value (List ℕ)) → Bool
-payloadWritable (shaped fs) vs = allWritable fs vs
-payloadWritable allData vs = true
-
-abbrev pub tagWritable : Version → Tag → List (Value (List ℕ)) → Bool
-tagWritable v (Plain k) vs = kindWritable k && allWritable (allFields (restOf k)) vs
-tagWritable v (Named k) vs = hasEx v && (payloadWritable (payloadAt k) vs && isData (payloadBytes (payloadAt k) vs))
-tagWritable v Other vs = hasEx v && (isUnknown (find (firstBytes vs)) && isData (secondBytes vs))
-
-unfoldable pub contentWritable : Version → Content (List ℕ) → Bool
-contentWritable v c = tagWritable v (c .tag) (c .values)
-
 -- ---- a record of the program, with the bytes lent with it
 
 abbrev pub countBeside : Beside → Args → ℕ
@@ -124,12 +75,6 @@ abbrev pub tagCount : Tag → Args → ℕ
 tagCount (Plain k) xs = argCount k xs
 tagCount (Named k) xs = 0
 tagCount Other xs = 0
-
--- at most 16 arguments, every part inside the bytes lent, and a written form
-unfoldable pub hasForm : Version → List ℕ → Record → Bool
-hasForm v s r =
-    leb (tagCount (recordOf r .tag) (r .args)) 16
-    && (partsInside s (recordOf r .values) && contentWritable v (meaning s (recordOf r)))
 
 unfoldable pub recordBytes : List ℕ → Record → List ℕ
 recordBytes s r = writeContent (meaning s (recordOf r))

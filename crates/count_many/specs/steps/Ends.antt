@@ -1,6 +1,6 @@
 -- Whether something else than the room ended a run.
 use mathlib.Core.Bool.{Bool, true, false}
-use Rattle.calls.specs.Calls.{Halt, isFull, wantsMore, finishes, isRefused}
+use Rattle.calls.specs.Along.{Halt, isFull, wantsMore, finishes, isRefused}
 
 abbrev pub notFull : Halt → Bool
 notFull isFull = false

@@ -6,7 +6,7 @@ use borrow.Author.Needs.{needs}
 use mir.Syntax.{w32}
 use mir.Val.{toZ, ofZ}
 use Rattle.state.specs.State.{entriesWith, memory, readerWith}
-use Rattle.calls.specs.Calls.{calls}
+use Rattle.calls.specs.Along.{calls}
 use Rattle.many.proofs.Turns.{Going, starts, full, fits, turn, more, finish, refused}
 use Rattle.many.proofs.read_rows.Statement.{statement}
 use Rattle.many.proofs.read_rows.Tie as tie

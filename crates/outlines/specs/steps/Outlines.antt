@@ -25,7 +25,8 @@ use Rattle.kinds.specs.declared.Version.{Version}
 use Rattle.kinds.specs.declared.Version.the-variants.{V1, V2}
 use Rattle.kinds.specs.declared.Kind.{Kind}
 use Rattle.kinds.specs.declared.Kind.the-variants as kinds
-use Rattle.written.specs.Written.{tagCount, tagWritable, tagBytes}
+use Rattle.written.specs.Written.{tagCount, tagBytes}
+use Rattle.written.specs.Form.{tagWritable}
 use Rattle.extensions.specs.declared.Layout.{Layout}
 use Rattle.extensions.specs.declared.Layout.the-variants as layouts
 use Rattle.outlines.specs.declared.Piece.{Piece}

@@ -12,7 +12,7 @@ use Rattle.lines.specs.Lines.{lastLine, longest, lineAnswer, lineTarget}
 use Rattle.lines.specs.steps.Puts.{PutsText}
 use Rattle.lines.specs.declared.Ending.the-variants.{TooLong}
 use Rattle.lines.proofs.Texts.{same-text}
-use Rattle.calls.specs.Calls.{wantsMore}
+use Rattle.calls.specs.Along.{wantsMore}
 use Rattle.row_lines.specs.steps.RowLines.{pastOr}
 use Rattle.replayer.specs.Replay.{tooLong, endingOf}
 use Rattle.row_lines.proofs.FromRows.{puts-of}

@@ -1,0 +1,56 @@
+-- Which records have a written form, by the structure of records; specs/Unwritable.antt has the tests for the others.
+use Prim.Native.Nat.{ℕ}
+use mathlib.Core.Bool.{Bool, true, false, _&&_}
+use mathlib.Core.List.{List}
+use lib.Dec.{leb}
+use lib.Signed.{nonNeg}
+use Rattle.packer.specs.Texts.{isData}
+use Rattle.fields.specs.Fields.{Value}
+use Rattle.fields.specs.Writing.{partsInside}
+use Rattle.fields.specs.Forms.{allWritable}
+use Rattle.kinds.specs.Kinds.{Client, nowhere, isNumber, following, leading, Beside, nothing, ten, arguments, ofExtension, kindRow}
+use Rattle.extensions.specs.Extensions.{Payload, shaped, allData, payloadAt, find, isUnknown}
+use Rattle.item.specs.Records.{Content, meaning, extension, restOf}
+use Rattle.item.specs.Contents.{recordOf}
+use Rattle.kinds.specs.declared.Version.{Version}
+use Rattle.kinds.specs.declared.Kind.{Kind}
+use Rattle.item.specs.declared.Tag.{Tag}
+use Rattle.item.specs.declared.Tag.the-variants.{Plain, Named, Other}
+use Rattle.item.specs.declared.Record.{Record}
+use Rattle.kinds.specs.Kinds.{hasEx}
+use Rattle.written.specs.Written.{allFields, firstBytes, payloadBytes, secondBytes, tagCount}
+
+-- a client that is the kind's number is none below 0
+abbrev pub clientWritable : Client → Bool
+clientWritable nowhere = true
+clientWritable (isNumber c) = nonNeg c
+clientWritable (following c) = true
+clientWritable leading = true
+
+-- an extension is written by its identifier
+abbrev pub besideWritable : Beside → Bool
+besideWritable nothing = true
+besideWritable ten = true
+besideWritable arguments = true
+besideWritable ofExtension = false
+
+abbrev pub kindWritable : Kind → Bool
+kindWritable k = besideWritable (kindRow k .beside) && clientWritable (kindRow k .client)
+
+abbrev pub payloadWritable : Payload → List (Value (List ℕ)) → Bool
+payloadWritable (shaped fs) vs = allWritable fs vs
+payloadWritable allData vs = true
+
+abbrev pub tagWritable : Version → Tag → List (Value (List ℕ)) → Bool
+tagWritable v (Plain k) vs = kindWritable k && allWritable (allFields (restOf k)) vs
+tagWritable v (Named k) vs = hasEx v && (payloadWritable (payloadAt k) vs && isData (payloadBytes (payloadAt k) vs))
+tagWritable v Other vs = hasEx v && (isUnknown (find (firstBytes vs)) && isData (secondBytes vs))
+
+unfoldable pub contentWritable : Version → Content (List ℕ) → Bool
+contentWritable v c = tagWritable v (c .tag) (c .values)
+
+-- at most 16 arguments, every part inside the bytes lent, and a written form
+unfoldable pub hasForm : Version → List ℕ → Record → Bool
+hasForm v s r =
+    leb (tagCount (recordOf r .tag) (r .args)) 16
+    && (partsInside s (recordOf r .values) && contentWritable v (meaning s (recordOf r)))
