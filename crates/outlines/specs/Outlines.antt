@@ -4,7 +4,7 @@ use mathlib.Core.Path.{_≡_}
 use mathlib.Core.Bool.{Bool, true, false, cond, _&&_}
 use mathlib.Core.List.{List, [], _∷_, _++_, map}
 use lib.ListN.{take}
-use lib.Dec.{leb, ltb}
+use lib.Dec.{leb}
 use lib.IntN.{ℤ, pos, negsuc}
 use Rattle.varint.specs.Written.{canonical}
 use Rattle.packer.specs.Parts.{shown}
@@ -17,7 +17,7 @@ use Rattle.shapes.specs.Shapes.{idPart}
 use Rattle.shapes.specs.declared.Shape.{Shape}
 use Rattle.shapes.specs.declared.Shape.the-variants as shapes
 use Rattle.shapes.specs.declared.Fields.{Fields}
-use Rattle.extensions.specs.Extensions.{count, idAt}
+use Rattle.extensions.specs.Extensions.{idAt}
 use Rattle.kinds.specs.Kinds.{kindNumber}
 use Rattle.item.specs.Records.{Content}
 use Rattle.item.specs.Contents.{beside}
@@ -47,7 +47,7 @@ pieceBytes s (Int z) = canonical z
 pieceBytes s (Raw p) = shown s p
 pieceBytes s (Str p) = stringBytes (shown s p)
 pieceBytes s (Data p) = dataBytes (shown s p)
-pieceBytes s (Id k) = idAt k
+pieceBytes s (Id e) = idAt e
 
 abbrev pub pieceOk : List ℕ → Piece → Bool
 pieceOk s Empty = true
@@ -56,7 +56,7 @@ pieceOk s (Int z) = true
 pieceOk s (Raw p) = inside s p
 pieceOk s (Str p) = inside s p && noZero (shown s p)
 pieceOk s (Data p) = inside s p && isData (shown s p)
-pieceOk s (Id k) = ltb k count
+pieceOk s (Id e) = true
 
 abbrev pub piecesBytes : List ℕ → List Piece → List ℕ
 piecesBytes s [] = []
@@ -87,7 +87,6 @@ planOf shapes.IntData f = planWith (Int (f .first)) (Data (f .text)) Empty Empty
 abbrev pub payloadPlan : Layout → Fields → Plan
 payloadPlan (layouts.Shaped shape) f = planOf shape f
 payloadPlan layouts.Whole f = planWith (Raw (f .text)) Empty Empty Empty
-payloadPlan layouts.Unknown f = planWith Never Empty Empty Empty
 
 abbrev pub checkedPiece : ℤ → Piece
 checkedPiece (pos n) = Empty

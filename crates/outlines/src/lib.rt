@@ -31,6 +31,8 @@ use fields::Args;
 use kinds::Kind;
 use item::Tag;
 use kinds::Version;
+use extensions::Extension;
+use extensions::Found;
 use extensions::Layout;
 use packer::Part;
 use shapes::Fields;
@@ -45,7 +47,7 @@ pub enum Piece {
     Raw(Part),
     Str(Part),
     Data(Part),
-    Id(usize),
+    Id(Extension),
 }
 
 // What follows the fields: nothing, the ten numbers of an input, the arguments of a command.
@@ -136,7 +138,6 @@ fn payload_plan(layout: Layout, f: Fields) -> Plan
     match layout {
         Layout::Shaped(shape) => plan_of(shape, f),
         Layout::Whole => plan_with(Piece::Raw(words), none, none, none),
-        Layout::Unknown => plan_with(Piece::Never, none, none, none),
     }
 }
 
@@ -365,7 +366,7 @@ fn left_piece(left: Left, s: &[u8], piece: Piece) -> Left
             )
         }
         Piece::Data(p) => left_data(left, s, p),
-        Piece::Id(k) => left_after(left, k < 20, 16),
+        Piece::Id(_) => left_after(left, true, 16),
     }
 }
 
@@ -399,22 +400,22 @@ fn ex_number(version: Version) -> Piece
 // One of the extensions: its number, its identifier, the size of its data, the data. It may have 2147483647 bytes.
 fn named_outline(
     version: Version,
-    k: usize,
+    which: Extension,
     s: &[u8],
     f: Fields,
     ten: [i32; 10],
     args: Args,
 ) -> Outline
-    ensures { λ r. ⌜ Outlines version (now (s .entry)) (fromFields (Named k) f) ten args r ⌝ }
+    ensures { λ r. ⌜ Outlines version (now (s .entry)) (fromFields (Named which) f) ten args r ⌝ }
 {
     let none = Piece::Empty;
-    let plan = payload_plan(extensions::payload_of(k), f);
+    let plan = payload_plan(extensions::payload_of(which), f);
     let data = outline_with(none, none, none, plan);
     let left = measure(Left::Room(2147483647), data, s, ten, args);
     match left {
         Left::Room(room) => outline_with(
             ex_number(version),
-            Piece::Id(k),
+            Piece::Id(which),
             Piece::Int((2147483647 - room) as i32),
             plan,
         ),
@@ -432,15 +433,15 @@ fn other_outline(version: Version, s: &[u8], f: Fields, ten: [i32; 10], args: Ar
     let words = f.text;
     let part = Part { at, len: 16 };
     let id = Piece::Raw(part);
-    if ids::find_id(s, at) == 20 {
-        return outline_with(
+    match ids::find_id(s, at) {
+        Found::Known(_) => never(),
+        Found::Unknown => outline_with(
             ex_number(version),
             none,
             none,
             plan_with(id, Piece::Data(words), none, none),
-        );
+        ),
     }
-    never()
 }
 
 // The outline of a record that is taken apart.
@@ -456,7 +457,7 @@ pub fn outline_of(
 {
     match tag {
         Tag::Plain(kind) => kind_outline(kind, f, args.count),
-        Tag::Named(k) => named_outline(version, k, s, f, ten, args),
+        Tag::Named(which) => named_outline(version, which, s, f, ten, args),
         Tag::Other => other_outline(version, s, f, ten, args),
     }
 }

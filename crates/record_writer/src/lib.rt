@@ -1,11 +1,11 @@
 // The writer of records (added to the Rust's): a record and the bytes lent with it, into a target at a place.
 ghost use mathlib.Core.Path.{_≡_};
-ghost use Prim.Native.Nat.{_<_};
 ghost use Rattle.varint.specs.Written.{written, wrote, writtenIf, wroteIf};
 ghost use Rattle.extensions.specs.Extensions.{idAt};
 ghost use Rattle.written.specs.Unwritable.{Writes};
 ghost use Rattle.outlines.specs.Outlines.{pieceOk, pieceBytes, piecesOf, piecesOk, piecesBytes};
 ghost use Rattle.record_writer.specs.Puts.{pastOf, HasRoom, Ready, Puts, roomAt};
+use extensions::Extension;
 use fields::Args;
 use item::Record;
 use kinds::Version;
@@ -25,16 +25,14 @@ fn past(answer: Wrote, other: usize) -> usize
     }
 }
 
-// The identifier of extension k, which fits: the place past it.
-fn put_id(k: usize, out: &mut [u8], at: usize) -> usize
-    requires { ⌜ k < 20 ⌝ }
-    requires { ⌜ HasRoom (now out) at (idAt k) ⌝ }
-    ensures { λ r. ⌜ Puts (now (out .entry)) at (idAt k) r (now (out .exit)) ⌝ }
+// The identifier of an extension, which fits: the place past it.
+fn put_id(which: Extension, out: &mut [u8], at: usize) -> usize
+    requires { ⌜ HasRoom (now out) at (idAt which) ⌝ }
+    ensures { λ r. ⌜ Puts (now (out .entry)) at (idAt which) r (now (out .exit)) ⌝ }
 {
-    let base = k * 16;
     let mut i = 0;
     while i < 16 {
-        out[at + i] = ids::table_byte(base + i);
+        out[at + i] = ids::id_byte(which, i);
         i += 1;
     }
     at + 16
@@ -53,7 +51,7 @@ fn write_piece(s: &[u8], piece: Piece, out: &mut [u8], at: usize) -> Wrote
         Piece::Raw(p) => packer::write_raw(packer::show(s, p), out, at),
         Piece::Str(p) => packer::write_string(packer::show(s, p), out, at),
         Piece::Data(p) => packer::write_data(packer::show(s, p), out, at),
-        Piece::Id(k) => Wrote::Past(put_id(k, out, at)),
+        Piece::Id(which) => Wrote::Past(put_id(which, out, at)),
     }
 }
 

@@ -58,4 +58,4 @@ left-piece-spec =
     (λ c. rw (c .before .before .before .before .piece2 .given .1) (rw (c .before .before .is-inside .ensures, c .before .show .ensures) at (c .left-after2 .ensures)))
     returns-5
     (λ c. rw (c .before .before .piece4 .given .1) (c .left-data .ensures))
-    (λ c. rw (c .before .before .piece5 .given .1) (c .left-after5 .ensures ∙ left-id (c .before .before .before .before .before .args .left) (c .before .before .piece5 .given .0 .0))))
+    (λ c. rw (c .before .enum-told3 .given .1) (c .left-after5 .ensures ∙ left-id (c .before .before .before .before .args .left) (c .before .enum-told3 .given .0 .0))))
