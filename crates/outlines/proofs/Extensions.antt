@@ -1,7 +1,7 @@
 -- The outline of an extension writes its written form. Assumes nothing.
 use Prim.Native.Nat.{ℕ, _≤_}
 use mathlib.Core.Path.{_≡_, refl, sym, _∙_, ap}
-use mathlib.Core.Bool.{Bool, true, false, _&&_}
+use mathlib.Core.Bool.{Bool, true, false, _&&_, and-true, and-false, and-assoc}
 use mathlib.Core.List.{List, [], _∷_, _++_, map, append-nil}
 use native.Mathlib.Omega.{arith}
 use lib.ListN.{length}
@@ -30,26 +30,13 @@ use Rattle.written.specs.Written.{payloadBytes, exBytes, payloadWritable}
 use Rattle.extensions.specs.Layouts.{payloadIs}
 use Rattle.extensions.specs.declared.Layout.{Layout}
 use Rattle.extensions.specs.declared.Layout.the-variants as layouts
-use Rattle.outlines.specs.Outlines.{
-  piecesBytes,
-  piecesOk,
-  planWith,
-  planOf,
-  payloadPlan,
-  outlineWith,
-  unwritable,
-  exNumber,
-  planPieces,
-  piecesOf,
-  contentOk,
-  contentBytes,
-  Outlines,
-}
-use Rattle.outlines.specs.declared.Piece.{Piece}
-use Rattle.outlines.specs.declared.Piece.the-variants.{Empty, Int, Raw, Data, Id}
-use Rattle.outlines.specs.declared.Tail.the-variants.{Nothing}
-use Rattle.outlines.specs.declared.Plan.{Plan}
-use Rattle.outlines.proofs.Tests.{never, always, grouped, one-text, two-parts}
+use Rattle.pieces.specs.Pieces.{piecesBytes, piecesOk, planPieces, piecesOf}
+use Rattle.outlines.specs.Outlines.{planWith, planOf, payloadPlan, outlineWith, unwritable, exNumber, contentOk, contentBytes, Outlines}
+use Rattle.pieces.specs.declared.Piece.{Piece}
+use Rattle.pieces.specs.declared.Piece.the-variants.{Empty, Int, Raw, Data, Id}
+use Rattle.pieces.specs.declared.Tail.the-variants.{Nothing}
+use Rattle.pieces.specs.declared.Plan.{Plan}
+use Rattle.outlines.proofs.Tests.{one-text, two-parts}
 
 module _ (s : List ℕ) (c : Content Part) (ten : List ℤ) (xs : Args) where
   -- what can't be written
@@ -85,9 +72,9 @@ module _ (s : List ℕ) (f : Fields) where
   shape-ok shapes.IntStr = one-text (inside s (f .text)) (noZero (shown s (f .text)))
   shape-ok shapes.IntIntStr = one-text (inside s (f .text)) (noZero (shown s (f .text)))
   shape-ok shapes.IntUuidStr =
-      rw (always (noZero (shown s (f .text)))) (two-parts (inside s (idPart (f .uuid))) (inside s (f .text)) (noZero (shown s (f .text))))
+      rw (and-true (noZero (shown s (f .text)))) (two-parts (inside s (idPart (f .uuid))) (inside s (f .text)) (noZero (shown s (f .text))))
   shape-ok shapes.IntUuidIntStr =
-      rw (always (noZero (shown s (f .text)))) (two-parts (inside s (idPart (f .uuid))) (inside s (f .text)) (noZero (shown s (f .text))))
+      rw (and-true (noZero (shown s (f .text)))) (two-parts (inside s (idPart (f .uuid))) (inside s (f .text)) (noZero (shown s (f .text))))
   shape-ok shapes.IntData = one-text (inside s (f .text)) (isData (shown s (f .text)))
 
   shape-bytes : (sh : Shape) → writeFields (fieldsIn sh) (map (mean s) (valuesIn (fieldsIn sh) f)) ≡ loadBytes (layouts.Shaped sh)
@@ -113,7 +100,7 @@ module _ (s : List ℕ) (f : Fields) where
       let vs = valuesIn (fieldsIn sh) f in
       let ms = map (mean s) vs in
       rw (append-nil vs)
-      (grouped (partsInside s vs) (allWritable (fieldsIn sh) ms) (isData (writeFields (fieldsIn sh) ms)) ∙ rw (shape-ok sh, shape-bytes sh))
+      (sym (and-assoc (partsInside s vs) (allWritable (fieldsIn sh) ms) (isData (writeFields (fieldsIn sh) ms))) ∙ rw (shape-ok sh, shape-bytes sh))
   layout-ok layouts.Whole = rw (append-nil (shown s (f .text)))
 
   layout-bytes : (l : Layout) → payloadBytes (payloadIs l) (map (mean s) (valuesOf (payloadIs l))) ≡ loadBytes l
@@ -124,7 +111,7 @@ module _ (s : List ℕ) (f : Fields) where
     module _ (k : Extension) where
       named-one : contentOk V1 s (fromFields (Named k) f) ten xs ≡ false
       unfolding contentOk
-      named-one = never (partsInside s (valuesOf (payloadAt k)))
+      named-one = and-false (partsInside s (valuesOf (payloadAt k)))
 
       module _ (l : Layout) (e : payloadIs l ≡ payloadAt k) where
         named-ok : contentOk V2 s (fromFields (Named k) f) ten xs ≡ loadOk l && isData (loadBytes l)
@@ -160,7 +147,7 @@ module _ (s : List ℕ) (f : Fields) where
 
     other-one : contentOk V1 s (fromFields Other f) ten xs ≡ false
     unfolding contentOk
-    other-one = never inIt
+    other-one = and-false inIt
 
     other-ok : contentOk V2 s (fromFields Other f) ten xs ≡ inIt && (isUnknown (find (shown s (idPart (f .uuid)))) && isData (shown s (f .text)))
     unfolding contentOk
@@ -188,4 +175,4 @@ module _ (s : List ℕ) (f : Fields) where
         (other-two e) v
 
     pub known-id : (x : Extension) → find (shown s (idPart (f .uuid))) ≡ Known x → (v : Version) → Outlines v s (fromFields Other f) ten xs unwritable
-    known-id x e v = never-outlines s (fromFields Other f) ten xs other-one (other-ok ∙ rw e (never inIt)) v
+    known-id x e v = never-outlines s (fromFields Other f) ten xs other-one (other-ok ∙ rw e (and-false inIt)) v

@@ -14,8 +14,9 @@ use Rattle.item.specs.declared.Record.{Record}
 use Rattle.written.specs.Written.{writeContent, contentWritable, hasForm, recordBytes}
 use Rattle.written.specs.Unwritable.{recordWritable, Writes}
 use Rattle.written.proofs.Unwritable.{writable-is-form}
-use Rattle.outlines.specs.Outlines.{piecesOf, piecesOk, piecesBytes, contentOk, contentBytes, Outlines}
-use Rattle.outlines.specs.declared.Outline.{Outline}
+use Rattle.pieces.specs.Pieces.{piecesOf, piecesOk, piecesBytes}
+use Rattle.outlines.specs.Outlines.{contentOk, contentBytes, Outlines}
+use Rattle.pieces.specs.declared.Outline.{Outline}
 
 -- what can't be written leaves the target, whatever its bytes
 same-writes : (xs : List ℕ) (at : ℕ) (ok ok' : Bool) (a b : List ℕ) → ok ≡ ok' → (ok' ≡ true → a ≡ b)

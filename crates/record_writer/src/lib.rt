@@ -3,15 +3,15 @@ ghost use mathlib.Core.Path.{_≡_};
 ghost use Rattle.varint.specs.Written.{written, wrote, writtenIf, wroteIf};
 ghost use Rattle.extensions.specs.Extensions.{idAt};
 ghost use Rattle.written.specs.Unwritable.{Writes};
-ghost use Rattle.outlines.specs.Outlines.{pieceOk, pieceBytes, piecesOf, piecesOk, piecesBytes};
+ghost use Rattle.pieces.specs.Pieces.{pieceOk, pieceBytes, piecesOf, piecesOk, piecesBytes};
 ghost use Rattle.record_writer.specs.Puts.{pastOf, HasRoom, Ready, Puts, roomAt};
 use extensions::Extension;
 use fields::Args;
 use item::Record;
 use kinds::Version;
-use outlines::Left;
-use outlines::Outline;
-use outlines::Piece;
+use pieces::Left;
+use pieces::Outline;
+use pieces::Piece;
 use refusal::Refusal;
 use varint::Wrote;
 
@@ -61,12 +61,12 @@ fn put_pieces(o: Outline, s: &[u8], ten: [i32; 10], args: Args, out: &mut [u8], 
     ensures { λ r. ⌜ Puts (now (out .entry)) at (piecesBytes (now (s .entry)) (piecesOf o ten args)) r (now (out .exit)) ⌝ }
 {
     let tail = o.tail;
-    let end = outlines::past_pieces(tail);
+    let end = pieces::past_pieces(tail);
     let mut next = at;
     let mut i = 0;
     while i < end {
         next = past(
-            write_piece(s, outlines::piece_at(o, ten, args, i), out, next),
+            write_piece(s, pieces::piece_at(o, ten, args, i), out, next),
             next,
         );
         i += 1;
@@ -96,7 +96,7 @@ fn write_outline(
     ensures answer { λ r. ⌜ r ≡ wroteIf (piecesOk (now (s .entry)) (piecesOf o ten args)) (now (out .entry)) at (piecesBytes (now (s .entry)) (piecesOf o ten args)) ⌝ }
     ensures target { λ r. ⌜ now (out .exit) ≡ writtenIf (piecesOk (now (s .entry)) (piecesOf o ten args)) (now (out .entry)) at (piecesBytes (now (s .entry)) (piecesOf o ten args)) ⌝ }
 {
-    let left = outlines::measure(room_at(out.len(), at), o, s, ten, args);
+    let left = pieces::measure(room_at(out.len(), at), o, s, ten, args);
     match left {
         Left::Room(_) => Wrote::Past(put_pieces(o, s, ten, args, out, at)),
         Left::Short => Wrote::Refused(Refusal::ShortTarget),

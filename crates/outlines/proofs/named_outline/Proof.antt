@@ -10,9 +10,9 @@ use mir.Syntax.{w32}
 use mir.Val.{toZ}
 use mir.Facts.{toZ-pos}
 use borrow.Author.Tests.{lt-leb}
-use Rattle.outlines.specs.Outlines.{leftAfter}
-use Rattle.outlines.specs.declared.Left.the-variants.{Room}
-use Rattle.outlines.proofs.Pieces.{room-left, too-short, not-ok}
+use Rattle.pieces.specs.Pieces.{leftAfter}
+use Rattle.pieces.specs.declared.Left.the-variants.{Room}
+use Rattle.pieces.proofs.Pieces.{room-left, too-short, not-ok}
 use Rattle.outlines.proofs.Extensions.{loadOk, loadBytes, named-outlines, bad-load}
 use Rattle.outlines.proofs.named_outline.Statement.{statement}
 use Rattle.outlines.proofs.named_outline.Tie as tie

@@ -18,26 +18,14 @@ use Rattle.fields.specs.declared.Args.{Args}
 use Rattle.extensions.specs.Extensions.{idAt}
 use Rattle.extensions.specs.declared.Extension.{Extension}
 use Rattle.ids.proofs.Table.{id-length}
-use Rattle.outlines.specs.Outlines.{
-  pieceBytes,
-  pieceOk,
-  piecesBytes,
-  piecesOk,
-  argsIn,
-  argPieces,
-  tailPieces,
-  piecesOf,
-  pastPieces,
-  roomAfter,
-  leftAfter,
-}
-use Rattle.outlines.specs.declared.Piece.{Piece}
-use Rattle.outlines.specs.declared.Piece.the-variants.{Empty, Int, Str}
-use Rattle.outlines.specs.declared.Tail.{Tail}
-use Rattle.outlines.specs.declared.Tail.the-variants.{Nothing, Numbers, Arguments}
-use Rattle.outlines.specs.declared.Outline.{Outline}
-use Rattle.outlines.specs.declared.Left.{Left}
-use Rattle.outlines.specs.declared.Left.the-variants.{Room, Short, Unwritable}
+use Rattle.pieces.specs.Pieces.{pieceBytes, pieceOk, piecesBytes, piecesOk, argsIn, argPieces, tailPieces, piecesOf, pastPieces, roomAfter, leftAfter}
+use Rattle.pieces.specs.declared.Piece.{Piece}
+use Rattle.pieces.specs.declared.Piece.the-variants.{Empty, Int, Str}
+use Rattle.pieces.specs.declared.Tail.{Tail}
+use Rattle.pieces.specs.declared.Tail.the-variants.{Nothing, Numbers, Arguments}
+use Rattle.pieces.specs.declared.Outline.{Outline}
+use Rattle.pieces.specs.declared.Left.{Left}
+use Rattle.pieces.specs.declared.Left.the-variants.{Room, Short, Unwritable}
 
 -- ---- room
 

@@ -1,4 +1,4 @@
--- `outlines::left_piece` meets its contract. Assumes nothing.
+-- `pieces::left_piece` meets its contract. Assumes nothing.
 use mathlib.Core.Path.{_≡_, refl, sym, _∙_, ap}
 use mathlib.Core.Bool.{true}
 use mathlib.Core.List.{[], _∷_}
@@ -8,10 +8,10 @@ use mir.Val.{toZ, ofZ}
 use Rattle.packer.specs.Parts.{shown}
 use Rattle.packer.specs.Texts.{noZero}
 use Rattle.fields.specs.Writing.{inside}
-use Rattle.outlines.specs.Outlines.{leftAfter}
-use Rattle.outlines.proofs.Pieces.{left-none, left-join, left-id}
-use Rattle.outlines.proofs.left_piece.Statement.{statement}
-use Rattle.outlines.proofs.left_piece.Tie as tie
+use Rattle.pieces.specs.Pieces.{leftAfter}
+use Rattle.pieces.proofs.Pieces.{left-none, left-join, left-id}
+use Rattle.pieces.proofs.left_piece.Statement.{statement}
+use Rattle.pieces.proofs.left_piece.Tie as tie
 
 returns-3 : tie.Need-returns-3
 returns-3 c =
