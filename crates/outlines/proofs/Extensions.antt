@@ -30,8 +30,8 @@ use Rattle.written.specs.Written.{payloadBytes, exBytes, payloadWritable}
 use Rattle.extensions.specs.Layouts.{payloadIs}
 use Rattle.extensions.specs.declared.Layout.{Layout}
 use Rattle.extensions.specs.declared.Layout.the-variants as layouts
-use Rattle.pieces.specs.Pieces.{piecesBytes, piecesOk, planPieces, piecesOf}
-use Rattle.outlines.specs.Outlines.{planWith, planOf, payloadPlan, outlineWith, unwritable, exNumber, contentOk, contentBytes, Outlines}
+use Rattle.pieces.specs.Pieces.{planWith, planOf, payloadPlan, piecesBytes, piecesOk, planPieces, piecesOf}
+use Rattle.outlines.specs.Outlines.{outlineWith, unwritable, exNumber, contentOk, contentBytes, Outlines}
 use Rattle.pieces.specs.declared.Piece.{Piece}
 use Rattle.pieces.specs.declared.Piece.the-variants.{Empty, Int, Raw, Data, Id}
 use Rattle.pieces.specs.declared.Tail.the-variants.{Nothing}

@@ -9,7 +9,6 @@ use Rattle.packer.specs.declared.Part.{Part}
 use Rattle.fields.specs.Fields.{Value, mean}
 use Rattle.fields.specs.Writing.{partsInside}
 use Rattle.fields.specs.declared.Args.{Args}
-use Rattle.shapes.specs.Shapes.{idPart}
 use Rattle.shapes.specs.declared.Shape.{Shape}
 use Rattle.shapes.specs.declared.Shape.the-variants as shapes
 use Rattle.shapes.specs.declared.Fields.{Fields}
@@ -18,14 +17,12 @@ use Rattle.kinds.specs.declared.Version.{Version}
 use Rattle.kinds.specs.declared.Version.the-variants.{V1, V2}
 use Rattle.kinds.specs.declared.Kind.{Kind}
 use Rattle.kinds.specs.declared.Kind.the-variants as kinds
-use Rattle.extensions.specs.declared.Layout.{Layout}
-use Rattle.extensions.specs.declared.Layout.the-variants as layouts
 use Rattle.item.specs.Records.{Content}
 use Rattle.item.specs.Contents.{beside}
 use Rattle.written.specs.Written.{tagCount, tagWritable, tagBytes}
-use Rattle.pieces.specs.Pieces.{piecesOk, piecesBytes, piecesOf}
+use Rattle.pieces.specs.Pieces.{noFields, planOf, piecesOk, piecesBytes, piecesOf}
 use Rattle.pieces.specs.declared.Piece.{Piece}
-use Rattle.pieces.specs.declared.Piece.the-variants.{Empty, Never, Int, Raw, Str, Data}
+use Rattle.pieces.specs.declared.Piece.the-variants.{Empty, Never, Int}
 use Rattle.pieces.specs.declared.Tail.{Tail}
 use Rattle.pieces.specs.declared.Tail.the-variants.{Nothing, Numbers, Arguments}
 use Rattle.pieces.specs.declared.Plan.{Plan}
@@ -33,26 +30,6 @@ use Rattle.pieces.specs.declared.Outline.{Outline}
 use Rattle.outlines.specs.declared.Form.{Form}
 
 -- ---- the pieces of a record
-
-abbrev pub planWith : Piece → Piece → Piece → Piece → Plan
-planWith a b c d = record { one = a; two = b; three = c; four = d }
-
-abbrev pub noFields : Plan
-noFields = planWith Empty Empty Empty Empty
-
-abbrev pub planOf : Shape → Fields → Plan
-planOf shapes.Nothing f = noFields
-planOf shapes.Int f = planWith (Int (f .first)) Empty Empty Empty
-planOf shapes.IntInt f = planWith (Int (f .first)) (Int (f .second)) Empty Empty
-planOf shapes.IntStr f = planWith (Int (f .first)) (Str (f .text)) Empty Empty
-planOf shapes.IntIntStr f = planWith (Int (f .first)) (Int (f .second)) (Str (f .text)) Empty
-planOf shapes.IntUuidStr f = planWith (Int (f .first)) (Raw (idPart (f .uuid))) (Str (f .text)) Empty
-planOf shapes.IntUuidIntStr f = planWith (Int (f .first)) (Raw (idPart (f .uuid))) (Int (f .second)) (Str (f .text))
-planOf shapes.IntData f = planWith (Int (f .first)) (Data (f .text)) Empty Empty
-
-abbrev pub payloadPlan : Layout → Fields → Plan
-payloadPlan (layouts.Shaped shape) f = planOf shape f
-payloadPlan layouts.Whole f = planWith (Raw (f .text)) Empty Empty Empty
 
 abbrev pub checkedPiece : ℤ → Piece
 checkedPiece (pos n) = Empty

@@ -3,9 +3,6 @@ ghost use mathlib.Core.Path.{_≡_};
 ghost use Rattle.item.specs.Taken.{fromFields};
 ghost use Rattle.item.specs.declared.Tag.the-variants.{Named, Other};
 ghost use Rattle.outlines.specs.Outlines.{
-  planWith,
-  planOf,
-  payloadPlan,
   checkedPiece,
   countPiece,
   outlineWith,
@@ -18,7 +15,6 @@ ghost use Rattle.outlines.specs.Outlines.{
 };
 use extensions::Extension;
 use extensions::Found;
-use extensions::Layout;
 use fields::Args;
 use item::Tag;
 use kinds::Kind;
@@ -40,55 +36,6 @@ pub struct Form {
 }
 
 // ---- the pieces of a record
-
-fn plan_with(one: Piece, two: Piece, three: Piece, four: Piece) -> Plan
-    ensures { λ r. ⌜ r ≡ planWith one two three four ⌝ }
-{
-    Plan {
-        one,
-        two,
-        three,
-        four,
-    }
-}
-
-// The fields of a shape.
-fn plan_of(shape: Shape, f: Fields) -> Plan
-    ensures { λ r. ⌜ r ≡ planOf shape f ⌝ }
-{
-    let words = f.text;
-    let part = Part {
-        at: f.uuid,
-        len: 16,
-    };
-    let first = Piece::Int(f.first);
-    let second = Piece::Int(f.second);
-    let id = Piece::Raw(part);
-    let text = Piece::Str(words);
-    let none = Piece::Empty;
-    match shape {
-        Shape::Nothing => plan_with(none, none, none, none),
-        Shape::Int => plan_with(first, none, none, none),
-        Shape::IntInt => plan_with(first, second, none, none),
-        Shape::IntStr => plan_with(first, text, none, none),
-        Shape::IntIntStr => plan_with(first, second, text, none),
-        Shape::IntUuidStr => plan_with(first, id, text, none),
-        Shape::IntUuidIntStr => plan_with(first, id, second, text),
-        Shape::IntData => plan_with(first, Piece::Data(words), none, none),
-    }
-}
-
-// The fields of an extension's data.
-fn payload_plan(layout: Layout, f: Fields) -> Plan
-    ensures { λ r. ⌜ r ≡ payloadPlan layout f ⌝ }
-{
-    let none = Piece::Empty;
-    let words = f.text;
-    match layout {
-        Layout::Shaped(shape) => plan_of(shape, f),
-        Layout::Whole => plan_with(Piece::Raw(words), none, none, none),
-    }
-}
 
 // No piece, and none that can be written where the number is negative.
 fn checked(value: i32) -> Piece
@@ -135,7 +82,12 @@ fn never() -> Outline
     ensures { λ r. ⌜ r ≡ unwritable ⌝ }
 {
     let none = Piece::Empty;
-    outline_with(Piece::Never, none, none, plan_with(none, none, none, none))
+    outline_with(
+        Piece::Never,
+        none,
+        none,
+        pieces::plan_with(none, none, none, none),
+    )
 }
 
 fn form_with(client: Piece, shape: Shape, tail: Tail) -> Form
@@ -183,7 +135,7 @@ fn kind_outline(kind: Kind, f: Fields, count: usize) -> Outline
         number: Piece::Int(kind.number()),
         client,
         size: Piece::Empty,
-        plan: plan_of(shape, f),
+        plan: pieces::plan_of(shape, f),
         count: count_piece(tail, count),
         tail,
     }
@@ -213,7 +165,7 @@ fn named_outline(
     ensures { λ r. ⌜ Outlines version (now (s .entry)) (fromFields (Named which) f) ten args r ⌝ }
 {
     let none = Piece::Empty;
-    let plan = payload_plan(extensions::payload_of(which), f);
+    let plan = pieces::payload_plan(extensions::payload_of(which), f);
     let data = outline_with(none, none, none, plan);
     let left = pieces::measure(Left::Room(2147483647), data, s, ten, args);
     match left {
@@ -243,7 +195,7 @@ fn other_outline(version: Version, s: &[u8], f: Fields, ten: [i32; 10], args: Ar
             ex_number(version),
             none,
             none,
-            plan_with(id, Piece::Data(words), none, none),
+            pieces::plan_with(id, Piece::Data(words), none, none),
         ),
     }
 }

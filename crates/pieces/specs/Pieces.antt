@@ -11,7 +11,13 @@ use Rattle.packer.specs.Texts.{noZero, stringBytes, isData, dataBytes}
 use Rattle.packer.specs.declared.Part.{Part}
 use Rattle.fields.specs.Writing.{inside}
 use Rattle.fields.specs.declared.Args.{Args}
+use Rattle.shapes.specs.Shapes.{idPart}
+use Rattle.shapes.specs.declared.Shape.{Shape}
+use Rattle.shapes.specs.declared.Shape.the-variants as shapes
+use Rattle.shapes.specs.declared.Fields.{Fields}
 use Rattle.extensions.specs.Extensions.{idAt}
+use Rattle.extensions.specs.declared.Layout.{Layout}
+use Rattle.extensions.specs.declared.Layout.the-variants as layouts
 use Rattle.pieces.specs.declared.Piece.{Piece}
 use Rattle.pieces.specs.declared.Piece.the-variants.{Empty, Never, Int, Raw, Str, Data, Id}
 use Rattle.pieces.specs.declared.Tail.{Tail}
@@ -50,6 +56,26 @@ piecesOk s [] = true
 piecesOk s (p ∷ ps) = pieceOk s p && piecesOk s ps
 
 -- ---- the pieces of a record
+
+abbrev pub planWith : Piece → Piece → Piece → Piece → Plan
+planWith a b c d = record { one = a; two = b; three = c; four = d }
+
+abbrev pub noFields : Plan
+noFields = planWith Empty Empty Empty Empty
+
+abbrev pub planOf : Shape → Fields → Plan
+planOf shapes.Nothing f = noFields
+planOf shapes.Int f = planWith (Int (f .first)) Empty Empty Empty
+planOf shapes.IntInt f = planWith (Int (f .first)) (Int (f .second)) Empty Empty
+planOf shapes.IntStr f = planWith (Int (f .first)) (Str (f .text)) Empty Empty
+planOf shapes.IntIntStr f = planWith (Int (f .first)) (Int (f .second)) (Str (f .text)) Empty
+planOf shapes.IntUuidStr f = planWith (Int (f .first)) (Raw (idPart (f .uuid))) (Str (f .text)) Empty
+planOf shapes.IntUuidIntStr f = planWith (Int (f .first)) (Raw (idPart (f .uuid))) (Int (f .second)) (Str (f .text))
+planOf shapes.IntData f = planWith (Int (f .first)) (Data (f .text)) Empty Empty
+
+abbrev pub payloadPlan : Layout → Fields → Plan
+payloadPlan (layouts.Shaped shape) f = planOf shape f
+payloadPlan layouts.Whole f = planWith (Raw (f .text)) Empty Empty Empty
 
 abbrev pub numberPieces : List ℤ → List Piece
 numberPieces ten = map Int ten

@@ -3,6 +3,9 @@ ghost use mathlib.Core.Path.{_≡_};
 ghost use lib.ListN.{length, getD};
 ghost use Rattle.fields.specs.Writing.{inside};
 ghost use Rattle.pieces.specs.Pieces.{
+  planWith,
+  planOf,
+  payloadPlan,
   numberPieces,
   argPieces,
   piecesOf,
@@ -14,8 +17,11 @@ ghost use Rattle.pieces.specs.Pieces.{
   leftAfter,
 };
 use extensions::Extension;
+use extensions::Layout;
 use fields::Args;
 use packer::Part;
+use shapes::Fields;
+use shapes::Shape;
 
 // A piece of a written form: none, one that can't be written, a number, bytes as they are, a string, data, the identifier of an
 // extension.
@@ -63,6 +69,56 @@ pub enum Left {
 }
 
 // ---- the pieces of a record
+
+// Four of them; fewer are filled up with none.
+pub fn plan_with(one: Piece, two: Piece, three: Piece, four: Piece) -> Plan
+    ensures { λ r. ⌜ r ≡ planWith one two three four ⌝ }
+{
+    Plan {
+        one,
+        two,
+        three,
+        four,
+    }
+}
+
+// The fields of a shape.
+pub fn plan_of(shape: Shape, f: Fields) -> Plan
+    ensures { λ r. ⌜ r ≡ planOf shape f ⌝ }
+{
+    let words = f.text;
+    let part = Part {
+        at: f.uuid,
+        len: 16,
+    };
+    let first = Piece::Int(f.first);
+    let second = Piece::Int(f.second);
+    let id = Piece::Raw(part);
+    let text = Piece::Str(words);
+    let none = Piece::Empty;
+    match shape {
+        Shape::Nothing => plan_with(none, none, none, none),
+        Shape::Int => plan_with(first, none, none, none),
+        Shape::IntInt => plan_with(first, second, none, none),
+        Shape::IntStr => plan_with(first, text, none, none),
+        Shape::IntIntStr => plan_with(first, second, text, none),
+        Shape::IntUuidStr => plan_with(first, id, text, none),
+        Shape::IntUuidIntStr => plan_with(first, id, second, text),
+        Shape::IntData => plan_with(first, Piece::Data(words), none, none),
+    }
+}
+
+// The fields of an extension's data.
+pub fn payload_plan(layout: Layout, f: Fields) -> Plan
+    ensures { λ r. ⌜ r ≡ payloadPlan layout f ⌝ }
+{
+    let none = Piece::Empty;
+    let words = f.text;
+    match layout {
+        Layout::Shaped(shape) => plan_of(shape, f),
+        Layout::Whole => plan_with(Piece::Raw(words), none, none, none),
+    }
+}
 
 // The numbers of an input.
 fn number_piece(ten: [i32; 10], i: usize) -> Piece

@@ -1,8 +1,8 @@
--- `outlines::payload_plan` meets its contract. Assumes nothing.
+-- `pieces::payload_plan` meets its contract. Assumes nothing.
 use mathlib.Core.Path.{_≡_, refl, sym, _∙_, ap}
 use borrow.Author.Needs.{needs}
-use Rattle.outlines.proofs.payload_plan.Statement.{statement}
-use Rattle.outlines.proofs.payload_plan.Tie as tie
+use Rattle.pieces.proofs.payload_plan.Statement.{statement}
+use Rattle.pieces.proofs.payload_plan.Tie as tie
 
 pub payload-plan-spec : {M : Type 1} → statement M
 payload-plan-spec =
