@@ -1,14 +1,12 @@
 -- The outline of an extension writes its written form. Assumes nothing.
-use Prim.Native.Nat.{ℕ, _≤_, _<_}
+use Prim.Native.Nat.{ℕ, _≤_}
 use mathlib.Core.Path.{_≡_, refl, sym, _∙_, ap}
-use mathlib.Core.Bool.{Bool, true, false, _&&_, and-eq-true-iff}
+use mathlib.Core.Bool.{Bool, true, false, _&&_, and-true, and-false, and-assoc}
 use mathlib.Core.List.{List, [], _∷_, _++_, map, append-nil}
 use native.Mathlib.Omega.{arith}
-use lib.ListN.{length, List·getD-eq-default}
-use lib.Dec.{eqb, ltb}
+use lib.ListN.{length}
 use lib.IntN.{ℤ, pos, negsuc}
-use borrow.Author.Tests.{eq-eqb, ne-eqb, le-leb, lt-leb, lt-ltb, ltb-false}
-use Rattle.num.proofs.Cases.{by-bool}
+use borrow.Author.Tests.{le-leb}
 use Rattle.packer.specs.Parts.{shown}
 use Rattle.packer.specs.Texts.{noZero, isData}
 use Rattle.packer.specs.declared.Part.{Part}
@@ -20,7 +18,9 @@ use Rattle.shapes.specs.steps.Shapes.{fieldsIn, idPart, valuesIn}
 use Rattle.shapes.specs.declared.Shape.{Shape}
 use Rattle.shapes.specs.declared.Shape.the-variants as shapes
 use Rattle.shapes.specs.declared.Fields.{Fields}
-use Rattle.extensions.specs.Extensions.{Extension, Payload, shaped, allData, unknown, count, extensions, noExtension, idAt, payloadAt, find}
+use Rattle.extensions.specs.Extensions.{Payload, shaped, allData, idAt, payloadAt, find, isUnknown}
+use Rattle.extensions.specs.declared.Extension.{Extension}
+use Rattle.extensions.specs.declared.Found.the-variants.{Known, Unknown}
 use Rattle.item.specs.Records.{Content}
 use Rattle.item.specs.Contents.{ownPayload}
 use Rattle.item.specs.steps.Taken.{fromFields}
@@ -32,26 +32,13 @@ use Rattle.written.specs.Form.{payloadWritable}
 use Rattle.extensions.specs.steps.Layouts.{payloadIs}
 use Rattle.extensions.specs.declared.Layout.{Layout}
 use Rattle.extensions.specs.declared.Layout.the-variants as layouts
-use Rattle.outlines.specs.steps.Outlines.{
-  piecesBytes,
-  piecesOk,
-  planWith,
-  planOf,
-  payloadPlan,
-  outlineWith,
-  unwritable,
-  exNumber,
-  planPieces,
-  piecesOf,
-  contentOk,
-  contentBytes,
-  Outlines,
-}
-use Rattle.outlines.specs.declared.Piece.{Piece}
-use Rattle.outlines.specs.declared.Piece.the-variants.{Empty, Int, Raw, Data, Id}
-use Rattle.outlines.specs.declared.Tail.the-variants.{Nothing}
-use Rattle.outlines.specs.declared.Plan.{Plan}
-use Rattle.outlines.proofs.Tests.{never, always, grouped, one-text, two-parts}
+use Rattle.pieces.specs.steps.Pieces.{planWith, planOf, payloadPlan, piecesBytes, piecesOk, planPieces, piecesOf}
+use Rattle.outlines.specs.steps.Outlines.{outlineWith, unwritable, exNumber, contentOk, contentBytes, Outlines}
+use Rattle.pieces.specs.declared.Piece.{Piece}
+use Rattle.pieces.specs.declared.Piece.the-variants.{Empty, Int, Raw, Data, Id}
+use Rattle.pieces.specs.declared.Tail.the-variants.{Nothing}
+use Rattle.pieces.specs.declared.Plan.{Plan}
+use Rattle.outlines.proofs.Tests.{one-text, two-parts}
 
 module _ (s : List ℕ) (c : Content Part) (ten : List ℤ) (xs : Args) where
   -- what can't be written
@@ -87,9 +74,9 @@ module _ (s : List ℕ) (f : Fields) where
   shape-ok shapes.IntStr = one-text (inside s (f .text)) (noZero (shown s (f .text)))
   shape-ok shapes.IntIntStr = one-text (inside s (f .text)) (noZero (shown s (f .text)))
   shape-ok shapes.IntUuidStr =
-      rw (always (noZero (shown s (f .text)))) (two-parts (inside s (idPart (f .uuid))) (inside s (f .text)) (noZero (shown s (f .text))))
+      rw (and-true (noZero (shown s (f .text)))) (two-parts (inside s (idPart (f .uuid))) (inside s (f .text)) (noZero (shown s (f .text))))
   shape-ok shapes.IntUuidIntStr =
-      rw (always (noZero (shown s (f .text)))) (two-parts (inside s (idPart (f .uuid))) (inside s (f .text)) (noZero (shown s (f .text))))
+      rw (and-true (noZero (shown s (f .text)))) (two-parts (inside s (idPart (f .uuid))) (inside s (f .text)) (noZero (shown s (f .text))))
   shape-ok shapes.IntData = one-text (inside s (f .text)) (isData (shown s (f .text)))
 
   shape-bytes : (sh : Shape) → writeFields (fieldsIn sh) (map (mean s) (valuesIn (fieldsIn sh) f)) ≡ loadBytes (layouts.Shaped sh)
@@ -115,44 +102,28 @@ module _ (s : List ℕ) (f : Fields) where
       let vs = valuesIn (fieldsIn sh) f in
       let ms = map (mean s) vs in
       rw (append-nil vs)
-      (grouped (partsInside s vs) (allWritable (fieldsIn sh) ms) (isData (writeFields (fieldsIn sh) ms)) ∙ rw (shape-ok sh, shape-bytes sh))
+      (sym (and-assoc (partsInside s vs) (allWritable (fieldsIn sh) ms) (isData (writeFields (fieldsIn sh) ms))) ∙ rw (shape-ok sh, shape-bytes sh))
   layout-ok layouts.Whole = rw (append-nil (shown s (f .text)))
-  layout-ok layouts.Unknown = never (inside s (idPart (f .uuid)) && (inside s (f .text) && true))
 
-  layout-bytes : (l : Layout) → loadOk l ≡ true → payloadBytes (payloadIs l) (map (mean s) (valuesOf (payloadIs l))) ≡ loadBytes l
-  layout-bytes (layouts.Shaped sh) n = rw (append-nil (valuesIn (fieldsIn sh) f)) (shape-bytes sh)
-  layout-bytes layouts.Whole n = sym (append-nil (shown s (f .text)))
-  layout-bytes layouts.Unknown n = let z : _≡_ {A = ℕ} 0 1 = cc in absurd (omega arith)
-
-  -- 20 and above are none of the extensions
-  unknown-load : (l : Layout) → payloadIs l ≡ unknown → loadOk l ≡ true → ⊥
-  unknown-load (layouts.Shaped sh) e a = let z : _≡_ {A = ℕ} 0 1 = cc in omega arith
-  unknown-load layouts.Whole e a = let z : _≡_ {A = ℕ} 0 1 = cc in omega arith
-  unknown-load layouts.Unknown e a = let z : _≡_ {A = ℕ} 0 1 = cc in omega arith
-
-  module _ (k : ℕ) where
-    past-known : 20 ≤ k → payloadAt k ≡ unknown
-    unfolding payloadAt extensions
-    past-known h = ap (λ (x : Extension). x .payload) (List·getD-eq-default extensions noExtension h)
-
-    known : (l : Layout) → payloadIs l ≡ payloadAt k → loadOk l ≡ true → ltb k 20 ≡ true
-    known l e a = by-bool (ltb k 20) (λ t. t) (λ t. absurd (unknown-load l (e ∙ past-known (ltb-false k 20 t)) a))
+  layout-bytes : (l : Layout) → payloadBytes (payloadIs l) (map (mean s) (valuesOf (payloadIs l))) ≡ loadBytes l
+  layout-bytes (layouts.Shaped sh) = rw (append-nil (valuesIn (fieldsIn sh) f)) (shape-bytes sh)
+  layout-bytes layouts.Whole = sym (append-nil (shown s (f .text)))
 
   module _ (ten : List ℤ) (xs : Args) where
-    module _ (k : ℕ) where
+    module _ (k : Extension) where
       named-one : contentOk V1 s (fromFields (Named k) f) ten xs ≡ false
       unfolding contentOk
-      named-one = never (partsInside s (valuesOf (payloadAt k)))
+      named-one = and-false (partsInside s (valuesOf (payloadAt k)))
 
       module _ (l : Layout) (e : payloadIs l ≡ payloadAt k) where
         named-ok : contentOk V2 s (fromFields (Named k) f) ten xs ≡ loadOk l && isData (loadBytes l)
         unfolding contentOk
         named-ok = ap PayloadOk (sym e) ∙ layout-ok l
 
-        named-bytes : loadOk l ≡ true → exBytes (idAt k) (loadBytes l) ≡ contentBytes s (fromFields (Named k) f) ten xs
+        named-bytes : exBytes (idAt k) (loadBytes l) ≡ contentBytes s (fromFields (Named k) f) ten xs
         unfolding contentBytes
-        named-bytes a =
-            ap (exBytes (idAt k)) (sym (layout-bytes l a)) ∙ ap (λ p. exBytes (idAt k) (payloadBytes p (map (mean s) (valuesOf p)))) e
+        named-bytes =
+            ap (exBytes (idAt k)) (sym (layout-bytes l)) ∙ ap (λ p. exBytes (idAt k) (payloadBytes p (map (mean s) (valuesOf p)))) e
 
         named-two : loadOk l ≡ true → length (loadBytes l) ≤ 2147483647
             → Outlines V2 s (fromFields (Named k) f) ten xs
@@ -160,7 +131,7 @@ module _ (s : List ℕ) (f : Fields) where
         named-two a h =
             let n : contentOk V2 s (fromFields (Named k) f) ten xs ≡ true =
             named-ok ∙ rw (a, le-leb (length (loadBytes l)) 2147483647 h) in
-            record { ok = rw (known k l e a, a) (sym n); written = λ t. named-bytes a }
+            record { ok = rw a (sym n); written = λ t. named-bytes }
 
         pub named-outlines : loadOk l ≡ true → length (loadBytes l) ≤ 2147483647 → (v : Version)
             → Outlines v s (fromFields (Named k) f) ten xs
@@ -178,9 +149,9 @@ module _ (s : List ℕ) (f : Fields) where
 
     other-one : contentOk V1 s (fromFields Other f) ten xs ≡ false
     unfolding contentOk
-    other-one = never inIt
+    other-one = and-false inIt
 
-    other-ok : contentOk V2 s (fromFields Other f) ten xs ≡ inIt && (eqb (find (shown s (idPart (f .uuid)))) count && isData (shown s (f .text)))
+    other-ok : contentOk V2 s (fromFields Other f) ten xs ≡ inIt && (isUnknown (find (shown s (idPart (f .uuid)))) && isData (shown s (f .text)))
     unfolding contentOk
     other-ok = refl
 
@@ -188,24 +159,22 @@ module _ (s : List ℕ) (f : Fields) where
     unfolding contentBytes
     other-bytes = refl
 
-    other-two : find (shown s (idPart (f .uuid))) ≡ 20
+    other-two : find (shown s (idPart (f .uuid))) ≡ Unknown
         → Outlines V2 s (fromFields Other f) ten xs
         (outlineWith (Int (negsuc 10)) Empty Empty (planWith (Raw (idPart (f .uuid))) (Data (f .text)) Empty Empty) Empty Nothing)
     other-two e = record {
       ok =
           sym (two-parts (inside s (idPart (f .uuid))) (inside s (f .text)) (isData (shown s (f .text))))
-          ∙ sym (other-ok ∙ rw (eq-eqb (find (shown s (idPart (f .uuid)))) 20 e));
+          ∙ sym (other-ok ∙ rw e);
       written = λ t. (simp append-nil) ∙ other-bytes;
     }
 
-    pub other-outlines : find (shown s (idPart (f .uuid))) ≡ 20 → (v : Version)
+    pub other-outlines : find (shown s (idPart (f .uuid))) ≡ Unknown → (v : Version)
         → Outlines v s (fromFields Other f) ten xs
         (outlineWith (exNumber v) Empty Empty (planWith (Raw (idPart (f .uuid))) (Data (f .text)) Empty Empty) Empty Nothing)
     other-outlines e v =
         in-version s (fromFields Other f) ten xs other-one Empty Empty (planWith (Raw (idPart (f .uuid))) (Data (f .text)) Empty Empty)
         (other-two e) v
 
-    pub known-id : (find (shown s (idPart (f .uuid))) ≡ 20 → ⊥) → (v : Version) → Outlines v s (fromFields Other f) ten xs unwritable
-    known-id e v =
-        never-outlines s (fromFields Other f) ten xs other-one
-        (other-ok ∙ rw (ne-eqb (find (shown s (idPart (f .uuid)))) 20 e) (never inIt)) v
+    pub known-id : (x : Extension) → find (shown s (idPart (f .uuid))) ≡ Known x → (v : Version) → Outlines v s (fromFields Other f) ten xs unwritable
+    known-id x e v = never-outlines s (fromFields Other f) ten xs other-one (other-ok ∙ rw e (and-false inIt)) v

@@ -1,4 +1,3 @@
 pub mod Tests
-pub mod Pieces
 pub mod Plain
 pub mod Extensions

@@ -1,7 +1,7 @@
 -- Tests put in another order, and lists of numbers and of strings. Assumes nothing.
 use Prim.Native.Nat.{ℕ, _-_}
 use mathlib.Core.Path.{_≡_, refl, sym, _∙_, ap}
-use mathlib.Core.Bool.{Bool, true, false, _&&_}
+use mathlib.Core.Bool.{Bool, true, false, _&&_, and-true, and-false}
 use mathlib.Core.List.{List, [], _∷_, map}
 use native.Mathlib.Omega.{arith}
 use lib.ListN.{length, replicate}
@@ -18,16 +18,8 @@ use Rattle.fields.specs.Fields.{int, num, mean}
 use Rattle.fields.specs.Views.{tenFields}
 use Rattle.fields.specs.Writing.{stringsBytes, allNoZero, writeFields, inside, allInside}
 use Rattle.fields.specs.Forms.{allWritable}
-use Rattle.outlines.specs.steps.Outlines.{piecesBytes, piecesOk, numberPieces}
-use Rattle.outlines.specs.declared.Piece.the-variants.{Str}
-
-pub never : (b : Bool) → b && false ≡ false
-never true = refl
-never false = refl
-
-pub always : (b : Bool) → b && true ≡ b
-always true = refl
-always false = refl
+use Rattle.pieces.specs.steps.Pieces.{piecesBytes, piecesOk, numberPieces}
+use Rattle.pieces.specs.declared.Piece.the-variants.{Str}
 
 pub crossed : (a b x y : Bool) → (a && b) && (x && y) ≡ (a && x) && (b && y)
 crossed false b x y = refl
@@ -35,27 +27,23 @@ crossed true true x y = refl
 crossed true false true y = refl
 crossed true false false y = refl
 
-pub grouped : (a b c : Bool) → a && (b && c) ≡ (a && b) && c
-grouped true b c = refl
-grouped false b c = refl
-
 -- a text inside the bytes lent, with a written form
 pub one-text : (i c : Bool) → (i && true) && (c && true) ≡ (i && c) && true
 one-text true c = refl
 one-text false c = refl
 
 pub two-parts : (u i c : Bool) → (u && (i && true)) && c ≡ u && ((i && c) && true)
-two-parts true true c = sym (always c)
+two-parts true true c = sym (and-true c)
 two-parts true false c = refl
 two-parts false i c = refl
 
 -- few arguments; a command and its arguments inside the bytes lent; the command and the arguments without 00
 command-few : (i j a b : Bool) → (i && (j && true)) && (a && (b && true)) ≡ (i && a) && (j && b)
-command-few i j a b = rw (always j, always b) (crossed i j a b)
+command-few i j a b = rw (and-true j, and-true b) (crossed i j a b)
 
 pub command : (n m i j a b : Bool) → (n ≡ true → m ≡ true) → n && ((i && (j && true)) && (a && ((m && b) && true))) ≡ (i && a) && (n && (j && b))
 command true m i j a b h = rw (h refl) (command-few i j a b)
-command false m i j a b h = sym (never (i && a))
+command false m i j a b h = sym (and-false (i && a))
 
 -- ---- dt is held as the i32 with its bits
 

@@ -13,10 +13,10 @@ use Rattle.varint.specs.Written.{wroteIf, writtenIf}
 use Rattle.varint.specs.declared.Wrote.{Wrote}
 use Rattle.varint.specs.declared.Wrote.the-variants.{Refused}
 use Rattle.varint.proofs.Writing.{short}
-use Rattle.outlines.specs.steps.Outlines.{leftAfter}
-use Rattle.outlines.specs.declared.Left.{Left}
-use Rattle.outlines.specs.declared.Left.the-variants.{Room, Short, Unwritable}
-use Rattle.outlines.proofs.Pieces.{room-left, too-short, not-ok}
+use Rattle.pieces.specs.steps.Pieces.{leftAfter}
+use Rattle.pieces.specs.declared.Left.{Left}
+use Rattle.pieces.specs.declared.Left.the-variants.{Room, Short, Unwritable}
+use Rattle.pieces.proofs.Pieces.{room-left, too-short, not-ok}
 use Rattle.record_writer.specs.steps.Puts.{Ready, roomAt}
 
 module _ (k : ℕ) where

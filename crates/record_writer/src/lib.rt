@@ -1,17 +1,17 @@
 // The writer of records (added to the Rust's): a record and the bytes lent with it, into a target at a place.
 ghost use mathlib.Core.Path.{_≡_};
-ghost use Prim.Native.Nat.{_<_};
 ghost use Rattle.varint.specs.Written.{written, wrote, writtenIf, wroteIf};
 ghost use Rattle.extensions.specs.Extensions.{idAt};
 ghost use Rattle.written.specs.Unwritable.{Writes};
-ghost use Rattle.outlines.specs.steps.Outlines.{pieceOk, pieceBytes, piecesOf, piecesOk, piecesBytes};
+ghost use Rattle.pieces.specs.steps.Pieces.{pieceOk, pieceBytes, piecesOf, piecesOk, piecesBytes};
 ghost use Rattle.record_writer.specs.steps.Puts.{pastOf, HasRoom, Ready, PutsBytes, roomAt};
+use extensions::Extension;
 use fields::Args;
 use item::Record;
 use kinds::Version;
-use outlines::Left;
-use outlines::Outline;
-use outlines::Piece;
+use pieces::Left;
+use pieces::Outline;
+use pieces::Piece;
 use refusal::Refusal;
 use varint::Wrote;
 
@@ -25,16 +25,14 @@ fn past(answer: Wrote, other: usize) -> usize
     }
 }
 
-// The identifier of extension k, which fits: the place past it.
-fn put_id(k: usize, out: &mut [u8], at: usize) -> usize
-    requires { ⌜ k < 20 ⌝ }
-    requires { ⌜ HasRoom (now out) at (idAt k) ⌝ }
-    ensures { λ r. ⌜ PutsBytes (now (out .entry)) at (idAt k) r (now (out .exit)) ⌝ }
+// The identifier of an extension, which fits: the place past it.
+fn put_id(which: Extension, out: &mut [u8], at: usize) -> usize
+    requires { ⌜ HasRoom (now out) at (idAt which) ⌝ }
+    ensures { λ r. ⌜ PutsBytes (now (out .entry)) at (idAt which) r (now (out .exit)) ⌝ }
 {
-    let base = k * 16;
     let mut i = 0;
     while i < 16 {
-        out[at + i] = ids::table_byte(base + i);
+        out[at + i] = ids::id_byte(which, i);
         i += 1;
     }
     at + 16
@@ -53,7 +51,7 @@ fn write_piece(s: &[u8], piece: Piece, out: &mut [u8], at: usize) -> Wrote
         Piece::Raw(p) => packer::write_raw(packer::show(s, p), out, at),
         Piece::Str(p) => packer::write_string(packer::show(s, p), out, at),
         Piece::Data(p) => packer::write_data(packer::show(s, p), out, at),
-        Piece::Id(k) => Wrote::Past(put_id(k, out, at)),
+        Piece::Id(which) => Wrote::Past(put_id(which, out, at)),
     }
 }
 
@@ -63,12 +61,12 @@ fn put_pieces(o: Outline, s: &[u8], ten: [i32; 10], args: Args, out: &mut [u8], 
     ensures { λ r. ⌜ PutsBytes (now (out .entry)) at (piecesBytes (now (s .entry)) (piecesOf o ten args)) r (now (out .exit)) ⌝ }
 {
     let tail = o.tail;
-    let end = outlines::past_pieces(tail);
+    let end = pieces::past_pieces(tail);
     let mut next = at;
     let mut i = 0;
     while i < end {
         next = past(
-            write_piece(s, outlines::piece_at(o, ten, args, i), out, next),
+            write_piece(s, pieces::piece_at(o, ten, args, i), out, next),
             next,
         );
         i += 1;
@@ -98,7 +96,7 @@ fn write_outline(
     ensures answer { λ r. ⌜ r ≡ wroteIf (piecesOk (now (s .entry)) (piecesOf o ten args)) (now (out .entry)) at (piecesBytes (now (s .entry)) (piecesOf o ten args)) ⌝ }
     ensures target { λ r. ⌜ now (out .exit) ≡ writtenIf (piecesOk (now (s .entry)) (piecesOf o ten args)) (now (out .entry)) at (piecesBytes (now (s .entry)) (piecesOf o ten args)) ⌝ }
 {
-    let left = outlines::measure(room_at(out.len(), at), o, s, ten, args);
+    let left = pieces::measure(room_at(out.len(), at), o, s, ten, args);
     match left {
         Left::Room(_) => Wrote::Past(put_pieces(o, s, ten, args, out, at)),
         Left::Short => Wrote::Refused(Refusal::ShortTarget),

@@ -47,8 +47,7 @@ use Rattle.extensions.specs.Extensions.{Payload, shaped, allData, find, payload
 use Rattle.extensions.specs.declared.Extension.{Extension}
 use Rattle.extensions.specs.declared.Found.{Found}
 use Rattle.extensions.specs.declared.Found.the-variants.{Known, Unknown}
-use Rattle.item.specs.Records.{Rest, fields, Content, asContent, upTo, ofPayload, ofFound, afterData, afterId, readEx, readAs, restOf, readRest}
-use Rattle.item.specs.Records as records
+use Rattle.item.specs.Records.{Rest, fields, extension, Content, asContent, upTo, ofPayload, ofFound, afterData, afterId, readEx, readAs, restOf, readRest}
 use Rattle.kinds.specs.declared.Version.{Version}
 use Rattle.kinds.specs.declared.Version.the-variants.{V1, V2}
 use Rattle.kinds.specs.declared.Kind.{Kind}

@@ -10,9 +10,9 @@ use mir.Syntax.{w32}
 use mir.Val.{toZ}
 use mir.Facts.{toZ-pos}
 use borrow.Author.Tests.{lt-leb}
-use Rattle.outlines.specs.steps.Outlines.{leftAfter}
-use Rattle.outlines.specs.declared.Left.the-variants.{Room}
-use Rattle.outlines.proofs.Pieces.{room-left, too-short, not-ok}
+use Rattle.pieces.specs.steps.Pieces.{leftAfter}
+use Rattle.pieces.specs.declared.Left.the-variants.{Room}
+use Rattle.pieces.proofs.Pieces.{room-left, too-short, not-ok}
 use Rattle.outlines.proofs.Extensions.{loadOk, loadBytes, named-outlines, bad-load}
 use Rattle.outlines.proofs.named_outline.Statement.{statement}
 use Rattle.outlines.proofs.named_outline.Tie as tie
@@ -45,7 +45,7 @@ returns c =
       c .before .before .before .before .before .before .before .payload-plan .ensures,
       c .before .ex-number .ensures,
     )
-    (named-outlines (a .s .now) (a .f) (a .ten) (a .args) (a .k) (l .result) (l .ensures) (z .0) (z .1 .0) (a .version))
+    (named-outlines (a .s .now) (a .f) (a .ten) (a .args) (a .which) (l .result) (l .ensures) (z .0) (z .1 .0) (a .version))
 
 returns-2 : tie.Need-returns-2
 returns-2 c =
@@ -55,7 +55,7 @@ returns-2 c =
     let o = loadOk (a .s .now) (a .f) (l .result) in
     let h = too-short 2147483647 n o (sym (measured (c .before .before .before)) ∙ c .before .enum-told .given .1) in
     rw (c .never .ensures)
-    (bad-load (a .s .now) (a .f) (a .ten) (a .args) (a .k) (l .result) (l .ensures) (rw (h .0, lt-leb n 2147483647 (h .1))) (a .version))
+    (bad-load (a .s .now) (a .f) (a .ten) (a .args) (a .which) (l .result) (l .ensures) (rw (h .0, lt-leb n 2147483647 (h .1))) (a .version))
 
 returns-3 : tie.Need-returns-3
 returns-3 c =
@@ -63,7 +63,7 @@ returns-3 c =
     let l = c .before .before .before .before .before .before .payload-of in
     let n = length (loadBytes (a .s .now) (a .f) (l .result)) in
     let h = not-ok 2147483647 n (loadOk (a .s .now) (a .f) (l .result)) (sym (measured (c .before .before .before)) ∙ c .before .enum-told2 .given .1) in
-    rw (c .never2 .ensures) (bad-load (a .s .now) (a .f) (a .ten) (a .args) (a .k) (l .result) (l .ensures) (rw h) (a .version))
+    rw (c .never2 .ensures) (bad-load (a .s .now) (a .f) (a .ten) (a .args) (a .which) (l .result) (l .ensures) (rw h) (a .version))
 
 pub named-outline-spec : {M : Type 1} → statement M
 named-outline-spec =

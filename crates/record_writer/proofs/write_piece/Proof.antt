@@ -2,7 +2,6 @@
 use mathlib.Core.Path.{_≡_, refl, sym, _∙_, ap}
 use mathlib.Core.Bool.{and-eq-true-iff}
 use borrow.Author.Needs.{needs}
-use borrow.Author.Tests.{ltb-true}
 use mir.Syntax.{w32}
 use mir.Val.{toZ, ofZ}
 use Rattle.packer.specs.Parts.{shown}
@@ -15,10 +14,7 @@ use Rattle.record_writer.proofs.write_piece.Statement.{statement}
 use Rattle.record_writer.proofs.write_piece.Tie as tie
 
 put-id-requires : tie.Need-put-id-requires
-put-id-requires c κs =
-    let g = c .before .before .piece5 .given in
-    let p = rw (g .1) at (c .before .before .before .before .before .before .pre) in
-    (ltb-true (g .0 .0) 20 (p .0), p .1)
+put-id-requires c κs = (rw (c .before .before .piece5 .given .1) at (c .before .before .before .before .before .before .pre)) .1
 
 returns : tie.Need-returns
 returns c =

@@ -8,8 +8,8 @@ use lib.Dec.{leb}
 use Rattle.varint.specs.Written.{written}
 use Rattle.varint.specs.declared.Wrote.{Wrote}
 use Rattle.varint.specs.declared.Wrote.the-variants.{Past, Refused}
-use Rattle.outlines.specs.declared.Left.{Left}
-use Rattle.outlines.specs.declared.Left.the-variants.{Room, Short}
+use Rattle.pieces.specs.declared.Left.{Left}
+use Rattle.pieces.specs.declared.Left.the-variants.{Room, Short}
 
 -- the place past what was written; another where it was refused
 abbrev pub pastOf : Wrote → ℕ → ℕ

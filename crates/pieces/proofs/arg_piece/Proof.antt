@@ -1,10 +1,10 @@
--- `outlines::arg_piece` meets its contract. Assumes nothing.
+-- `pieces::arg_piece` meets its contract. Assumes nothing.
 use mathlib.Core.Path.{_≡_, refl, sym, _∙_, ap}
 use borrow.Author.Needs.{needs}
 use lib.ListN.{length, length-map}
-use Rattle.outlines.proofs.Pieces.{arg-past, arg-beyond, arg-here}
-use Rattle.outlines.proofs.arg_piece.Statement.{statement}
-use Rattle.outlines.proofs.arg_piece.Tie as tie
+use Rattle.pieces.proofs.Pieces.{arg-past, arg-beyond, arg-here}
+use Rattle.pieces.proofs.arg_piece.Statement.{statement}
+use Rattle.pieces.proofs.arg_piece.Tie as tie
 
 sixteen : (c : tie.Start) → length (c .args .args .parts) ≡ 16
 sixteen c = sym (length-map (c .args .args .parts) _) ∙ c .good .0 .1 .1 .1 .0 .1 .0 .1

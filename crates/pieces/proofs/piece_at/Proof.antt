@@ -1,11 +1,11 @@
--- `outlines::piece_at` meets its contract. Assumes nothing.
+-- `pieces::piece_at` meets its contract. Assumes nothing.
 use mathlib.Core.Path.{_≡_, refl, sym, _∙_, ap}
 use native.Mathlib.Omega.{arith}
 use borrow.Author.Needs.{needs}
 use Rattle.ids.proofs.Keys.{outside}
-use Rattle.outlines.proofs.Pieces.{past-head}
-use Rattle.outlines.proofs.piece_at.Statement.{statement}
-use Rattle.outlines.proofs.piece_at.Tie as tie
+use Rattle.pieces.proofs.Pieces.{past-head}
+use Rattle.pieces.proofs.piece_at.Statement.{statement}
+use Rattle.pieces.proofs.piece_at.Tie as tie
 
 returns-9 : tie.Need-returns-9
 returns-9 c =

@@ -1,4 +1,4 @@
--- `outlines::left_piece` meets its contract. Assumes nothing.
+-- `pieces::left_piece` meets its contract. Assumes nothing.
 use mathlib.Core.Path.{_≡_, refl, sym, _∙_, ap}
 use mathlib.Core.Bool.{true}
 use mathlib.Core.List.{[], _∷_}
@@ -8,10 +8,10 @@ use mir.Val.{toZ, ofZ}
 use Rattle.packer.specs.Parts.{shown}
 use Rattle.packer.specs.Texts.{noZero}
 use Rattle.fields.specs.Writing.{inside}
-use Rattle.outlines.specs.steps.Outlines.{leftAfter}
-use Rattle.outlines.proofs.Pieces.{left-none, left-join, left-id}
-use Rattle.outlines.proofs.left_piece.Statement.{statement}
-use Rattle.outlines.proofs.left_piece.Tie as tie
+use Rattle.pieces.specs.steps.Pieces.{leftAfter}
+use Rattle.pieces.proofs.Pieces.{left-none, left-join, left-id}
+use Rattle.pieces.proofs.left_piece.Statement.{statement}
+use Rattle.pieces.proofs.left_piece.Tie as tie
 
 returns-3 : tie.Need-returns-3
 returns-3 c =
@@ -58,4 +58,4 @@ left-piece-spec =
     (λ c. rw (c .before .before .before .before .piece2 .given .1) (rw (c .before .before .is-inside .ensures, c .before .show .ensures) at (c .left-after2 .ensures)))
     returns-5
     (λ c. rw (c .before .before .piece4 .given .1) (c .left-data .ensures))
-    (λ c. rw (c .before .before .piece5 .given .1) (c .left-after5 .ensures ∙ left-id (c .before .before .before .before .before .args .left) (c .before .before .piece5 .given .0 .0))))
+    (λ c. rw (c .before .enum-told3 .given .1) (c .left-after5 .ensures ∙ left-id (c .before .before .before .before .args .left) (c .before .enum-told3 .given .0 .0))))

@@ -1,9 +1,9 @@
--- `outlines::left_after` meets its contract. Assumes nothing.
+-- `pieces::left_after` meets its contract. Assumes nothing.
 use mathlib.Core.Path.{_≡_, refl, sym, _∙_, ap}
 use borrow.Author.Needs.{needs}
 use borrow.Author.Tests.{not-true, not-false, le-leb, lt-leb}
-use Rattle.outlines.proofs.left_after.Statement.{statement}
-use Rattle.outlines.proofs.left_after.Tie as tie
+use Rattle.pieces.proofs.left_after.Statement.{statement}
+use Rattle.pieces.proofs.left_after.Tie as tie
 
 pub left-after-spec : {M : Type 1} → statement M
 left-after-spec =

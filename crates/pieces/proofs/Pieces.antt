@@ -8,35 +8,24 @@ use native.Mathlib.Nat.{min-le-left, min-le-right, le-min, le-of-suc-le-suc, not
 use native.Mathlib.Numerals.{add-one}
 use lib.ListN.{length, take, drop, getD, length-append, length-map, length-take, List·getD-eq-default}
 use lib.Seq.{getD-take, length-take-le}
-use lib.Dec.{leb, ltb}
+use lib.Dec.{leb}
 use lib.IntN.{ℤ}
-use borrow.Author.Tests.{le-leb, lt-leb, leb-true, leb-false, ltb-true}
+use borrow.Author.Tests.{le-leb, lt-leb, leb-true, leb-false}
 use Rattle.num.proofs.Cases.{by-bool}
 use Rattle.packer.specs.declared.Part.{Part}
 use Rattle.fields.specs.Views.{noPart}
 use Rattle.fields.specs.declared.Args.{Args}
-use Rattle.extensions.specs.Extensions.{count, idAt}
+use Rattle.extensions.specs.Extensions.{idAt}
+use Rattle.extensions.specs.declared.Extension.{Extension}
 use Rattle.ids.proofs.Table.{id-length}
-use Rattle.outlines.specs.steps.Outlines.{
-  pieceBytes,
-  pieceOk,
-  piecesBytes,
-  piecesOk,
-  argumentsIn,
-  argPieces,
-  tailPieces,
-  piecesOf,
-  pastPieces,
-  roomAfter,
-  leftAfter,
-}
-use Rattle.outlines.specs.declared.Piece.{Piece}
-use Rattle.outlines.specs.declared.Piece.the-variants.{Empty, Int, Str}
-use Rattle.outlines.specs.declared.Tail.{Tail}
-use Rattle.outlines.specs.declared.Tail.the-variants.{Nothing, Numbers, Arguments}
-use Rattle.outlines.specs.declared.Outline.{Outline}
-use Rattle.outlines.specs.declared.Left.{Left}
-use Rattle.outlines.specs.declared.Left.the-variants.{Room, Short, Unwritable}
+use Rattle.pieces.specs.steps.Pieces.{pieceBytes, pieceOk, piecesBytes, piecesOk, argumentsIn, argPieces, tailPieces, piecesOf, pastPieces, roomAfter, leftAfter}
+use Rattle.pieces.specs.declared.Piece.{Piece}
+use Rattle.pieces.specs.declared.Piece.the-variants.{Empty, Int, Str}
+use Rattle.pieces.specs.declared.Tail.{Tail}
+use Rattle.pieces.specs.declared.Tail.the-variants.{Nothing, Numbers, Arguments}
+use Rattle.pieces.specs.declared.Outline.{Outline}
+use Rattle.pieces.specs.declared.Left.{Left}
+use Rattle.pieces.specs.declared.Left.the-variants.{Room, Short, Unwritable}
 
 -- ---- room
 
@@ -78,8 +67,8 @@ pub left-join : (l : Left) (p q : Bool) (a b : List ℕ) → leftAfter (leftAfte
 left-join l p q a b = left-two l p q (length a) (length b) ∙ ap (leftAfter l (p && q)) (sym (length-append a b))
 
 -- an identifier has 16 bytes
-pub left-id : (l : Left) (k : ℕ) → leftAfter l (ltb k 20) 16 ≡ leftAfter l (ltb k count) (length (idAt k))
-left-id l k = by-bool (ltb k 20) (λ t. rw (t, id-length k (ltb-true k 20 t))) (λ t. rw t)
+pub left-id : (l : Left) (e : Extension) → leftAfter l true 16 ≡ leftAfter l true (length (idAt e))
+left-id l e = rw (id-length e)
 
 -- what the room that is left tells
 module _ (n k : ℕ) where

@@ -1,4 +1,4 @@
--- `outlines::number_piece` meets its contract. Assumes nothing.
+-- `pieces::number_piece` meets its contract. Assumes nothing.
 use mathlib.Core.Path.{_≡_, refl, sym, _∙_, ap}
 use native.Mathlib.Omega.{arith}
 use borrow.Author.Needs.{needs}
@@ -6,10 +6,10 @@ use lib.ListN.{getD}
 use lib.IntN.{pos}
 use mir.Syntax.{w32}
 use mir.Val.{toZ, ofZ}
-use Rattle.outlines.specs.declared.Piece.the-variants.{Empty, Int}
-use Rattle.outlines.proofs.Pieces.{getD-map, number-past}
-use Rattle.outlines.proofs.number_piece.Statement.{statement}
-use Rattle.outlines.proofs.number_piece.Tie as tie
+use Rattle.pieces.specs.declared.Piece.the-variants.{Empty, Int}
+use Rattle.pieces.proofs.Pieces.{getD-map, number-past}
+use Rattle.pieces.proofs.number_piece.Statement.{statement}
+use Rattle.pieces.proofs.number_piece.Tie as tie
 
 returns : tie.Need-returns
 returns c =

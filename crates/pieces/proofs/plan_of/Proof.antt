@@ -1,10 +1,10 @@
--- `outlines::plan_of` meets its contract. Assumes nothing.
+-- `pieces::plan_of` meets its contract. Assumes nothing.
 use mathlib.Core.Path.{_≡_, refl, sym, _∙_, ap}
 use borrow.Author.Needs.{needs}
 use mir.Syntax.{w32}
 use mir.Val.{toZ, ofZ}
-use Rattle.outlines.proofs.plan_of.Statement.{statement}
-use Rattle.outlines.proofs.plan_of.Tie as tie
+use Rattle.pieces.proofs.plan_of.Statement.{statement}
+use Rattle.pieces.proofs.plan_of.Tie as tie
 
 first : (c : tie.Start) → toZ w32 (ofZ w32 (c .args .f .first)) ≡ c .args .f .first
 first c = search needs

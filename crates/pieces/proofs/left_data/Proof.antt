@@ -1,7 +1,7 @@
--- `outlines::left_data` meets its contract. Assumes nothing.
+-- `pieces::left_data` meets its contract. Assumes nothing.
 use Prim.Native.Nat.{_+_}
 use mathlib.Core.Path.{_≡_, refl, sym, _∙_, ap}
-use mathlib.Core.Bool.{true, false}
+use mathlib.Core.Bool.{true, false, and-true, and-false}
 use native.Mathlib.Omega.{arith}
 use borrow.Author.Needs.{needs}
 use borrow.Author.Tests.{le-leb, lt-leb}
@@ -15,16 +15,15 @@ use Rattle.varint.proofs.Writing.{canonical-le}
 use Rattle.packer.specs.Parts.{shown}
 use Rattle.packer.specs.Texts.{isData, dataBytes}
 use Rattle.fields.specs.Writing.{inside}
-use Rattle.outlines.proofs.Tests.{never, always}
-use Rattle.outlines.proofs.left_data.Statement.{statement}
-use Rattle.outlines.proofs.left_data.Tie as tie
+use Rattle.pieces.proofs.left_data.Statement.{statement}
+use Rattle.pieces.proofs.left_data.Tie as tie
 
 returns : tie.Need-returns
 returns c =
     let a = c .before .before .before .args in
     let b = shown (a .s .now) (a .p) in
     let e : isData b ≡ false = lt-leb (length b) 2147483647 (rw (c .before .show .ensures) at (c .if1 .taken)) in
-    rw (e, never (inside (a .s .now) (a .p)))
+    rw (e, and-false (inside (a .s .now) (a .p)))
 
 returns-2 : tie.Need-returns-2
 returns-2 c =
@@ -37,7 +36,7 @@ returns-2 c =
     let q = n in
     let e : isData b ≡ true = le-leb (length b) 2147483647 h in
     let k = rw (c .before .before .is-inside .ensures, n, w, ← length-append (canonical (pos (length b))) b) at (c .left-after .ensures) in
-    rw (e, always (inside (a .s .now) (a .p))) k
+    rw (e, and-true (inside (a .s .now) (a .p))) k
 
 pub left-data-spec : {M : Type 1} → statement M
 left-data-spec =

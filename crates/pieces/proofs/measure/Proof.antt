@@ -1,13 +1,13 @@
--- `outlines::measure` meets its contract. The loop's invariant: the pieces from `i` on leave of the room left what all of them leave of it. Assumes nothing.
+-- `pieces::measure` meets its contract. The loop's invariant: the pieces from `i` on leave of the room left what all of them leave of it. Assumes nothing.
 use Prim.Native.Nat.{_-_, _≤_}
 use mathlib.Core.Path.{_≡_, refl, sym, _∙_, ap}
 use native.Mathlib.Omega.{arith}
 use borrow.Author.Needs.{needs}
 use lib.ListN.{length, drop, length-map, drop-of-length-le}
-use Rattle.outlines.specs.steps.Outlines.{piecesOf, piecesOk, piecesBytes, leftAfter}
-use Rattle.outlines.proofs.Pieces.{left-none, left-next, pieces-end}
-use Rattle.outlines.proofs.measure.Statement.{statement}
-use Rattle.outlines.proofs.measure.Tie as tie
+use Rattle.pieces.specs.steps.Pieces.{piecesOf, piecesOk, piecesBytes, leftAfter}
+use Rattle.pieces.proofs.Pieces.{left-none, left-next, pieces-end}
+use Rattle.pieces.proofs.measure.Statement.{statement}
+use Rattle.pieces.proofs.measure.Tie as tie
 
 abbrev Inv-loop : tie.InvT-loop
 Inv-loop o s ten args left₀ i₀ end left i =

@@ -1,12 +1,12 @@
--- `outlines::is_inside` meets its contract. Assumes nothing.
+-- `pieces::is_inside` meets its contract. Assumes nothing.
 use Prim.Native.Nat.{_+_}
 use mathlib.Core.Path.{sym}
 use native.Mathlib.Omega.{arith}
 use borrow.Author.Needs.{needs}
 use borrow.Author.Tests.{lt-leb, le-leb}
 use lib.ListN.{length}
-use Rattle.outlines.proofs.is_inside.Statement.{statement}
-use Rattle.outlines.proofs.is_inside.Tie as tie
+use Rattle.pieces.proofs.is_inside.Statement.{statement}
+use Rattle.pieces.proofs.is_inside.Tie as tie
 
 returns : tie.Need-returns
 returns c = let a = c .before .args in sym (lt-leb (a .p .at + a .p .len) (length (a .s .now)) (omega arith))
