@@ -229,7 +229,7 @@ after-id s at parts.RunsOut h = tt
 as-past : (s : List ℕ) (k : Kind) (r : Rest) (at : ℕ) → Past at (readAs s k r at)
 unfolding readEx
 as-past s k (fields fs gs) at = content-past at _ (readFields (fs ++ gs) s at) (fields-past (fs ++ gs) s at)
-as-past s k records.extension at = after-id s at (readRaw 16 s at) (raw-past 16 s at)
+as-past s k extension at = after-id s at (readRaw 16 s at) (raw-past 16 s at)
 
 pub rest-past : (k : Kind) (s : List ℕ) (at : ℕ) → Past at (readRest k s at)
 unfolding readRest
