@@ -1,7 +1,17 @@
-// The outline of a record: the pieces of its written form, one after the other.
+// The pieces of a record's written form, and which stand in the outline of a record.
 ghost use mathlib.Core.Path.{_≡_};
+ghost use lib.ListN.{getD};
 ghost use Rattle.item.specs.steps.Taken.{fromFields};
-ghost use Rattle.item.specs.declared.Tag.the-variants.{Named, Other};
+ghost use Rattle.item.specs.declared.Tag.the-variants.{Other};
+ghost use Rattle.outlines.specs.steps.Pieces.{
+  planWith,
+  planOf,
+  payloadPlan,
+  numberPieces,
+  argPieces,
+  piecesOf,
+  pastPieces,
+};
 ghost use Rattle.outlines.specs.steps.Outlines.{
   checkedPiece,
   countPiece,
@@ -15,18 +25,51 @@ ghost use Rattle.outlines.specs.steps.Outlines.{
 };
 use extensions::Extension;
 use extensions::Found;
+use extensions::Layout;
 use fields::Args;
-use item::Tag;
 use kinds::Kind;
 use kinds::Version;
 use packer::Part;
-use pieces::Left;
-use pieces::Outline;
-use pieces::Piece;
-use pieces::Plan;
-use pieces::Tail;
 use shapes::Fields;
 use shapes::Shape;
+
+// A piece of a written form: none, one that can't be written, a number, bytes as they are, a string, data, the identifier of an
+// extension.
+pub enum Piece {
+    Empty,
+    Never,
+    Int(i32),
+    Raw(Part),
+    Str(Part),
+    Data(Part),
+    Id(Extension),
+}
+
+// What follows the fields: nothing, the ten numbers of an input, the arguments of a command.
+pub enum Tail {
+    Nothing,
+    Numbers,
+    Arguments,
+}
+
+// The fields.
+pub struct Plan {
+    pub one: Piece,
+    pub two: Piece,
+    pub three: Piece,
+    pub four: Piece,
+}
+
+// In this order: the kind's number; its client, or an extension's identifier; the size of an extension's data; the fields; how many
+// arguments there are; and what follows.
+pub struct Outline {
+    pub number: Piece,
+    pub client: Piece,
+    pub size: Piece,
+    pub plan: Plan,
+    pub count: Piece,
+    pub tail: Tail,
+}
 
 // What stands behind a kind's number: its client, its fields, and what follows them.
 pub struct Form {
@@ -35,7 +78,117 @@ pub struct Form {
     pub tail: Tail,
 }
 
-// ---- the pieces of a record
+// ---- the pieces of an outline
+
+// Four of them; fewer are filled up with none.
+pub fn plan_with(one: Piece, two: Piece, three: Piece, four: Piece) -> Plan
+    ensures { λ r. ⌜ r ≡ planWith one two three four ⌝ }
+{
+    Plan {
+        one,
+        two,
+        three,
+        four,
+    }
+}
+
+// The fields of a shape.
+pub fn plan_of(shape: Shape, f: Fields) -> Plan
+    ensures { λ r. ⌜ r ≡ planOf shape f ⌝ }
+{
+    let words = f.text;
+    let part = Part {
+        at: f.uuid,
+        len: 16,
+    };
+    let first = Piece::Int(f.first);
+    let second = Piece::Int(f.second);
+    let id = Piece::Raw(part);
+    let text = Piece::Str(words);
+    let none = Piece::Empty;
+    match shape {
+        Shape::Nothing => plan_with(none, none, none, none),
+        Shape::Int => plan_with(first, none, none, none),
+        Shape::IntInt => plan_with(first, second, none, none),
+        Shape::IntStr => plan_with(first, text, none, none),
+        Shape::IntIntStr => plan_with(first, second, text, none),
+        Shape::IntUuidStr => plan_with(first, id, text, none),
+        Shape::IntUuidIntStr => plan_with(first, id, second, text),
+        Shape::IntData => plan_with(first, Piece::Data(words), none, none),
+    }
+}
+
+// The fields of an extension's data.
+pub fn payload_plan(layout: Layout, f: Fields) -> Plan
+    ensures { λ r. ⌜ r ≡ payloadPlan layout f ⌝ }
+{
+    let none = Piece::Empty;
+    let words = f.text;
+    match layout {
+        Layout::Shaped(shape) => plan_of(shape, f),
+        Layout::Whole => plan_with(Piece::Raw(words), none, none, none),
+    }
+}
+
+// The numbers of an input.
+fn number_piece(ten: [i32; 10], i: usize) -> Piece
+    ensures { λ r. ⌜ r ≡ getD (numberPieces ten) i Piece.Empty ⌝ }
+{
+    if i < 10 {
+        return Piece::Int(ten[i]);
+    }
+    Piece::Empty
+}
+
+// The arguments of a command.
+fn arg_piece(args: Args, i: usize) -> Piece
+    ensures { λ r. ⌜ r ≡ getD (argPieces args) i Piece.Empty ⌝ }
+{
+    let parts = args.parts;
+    if args.count <= i {
+        return Piece::Empty;
+    }
+    if i < 16 {
+        return Piece::Str(parts[i]);
+    }
+    Piece::Empty
+}
+
+// Piece i of a record.
+pub fn piece_at(o: Outline, ten: [i32; 10], args: Args, i: usize) -> Piece
+    ensures { λ r. ⌜ r ≡ getD (piecesOf o ten args) i Piece.Empty ⌝ }
+{
+    let plan = o.plan;
+    let tail = o.tail;
+    match i {
+        0 => o.number,
+        1 => o.client,
+        2 => o.size,
+        3 => plan.one,
+        4 => plan.two,
+        5 => plan.three,
+        6 => plan.four,
+        7 => o.count,
+        _ => match tail {
+            Tail::Nothing => Piece::Empty,
+            Tail::Numbers => number_piece(ten, i - 8),
+            Tail::Arguments => arg_piece(args, i - 8),
+        },
+    }
+}
+
+// No piece stands at this place or past it.
+pub fn past_pieces(tail: Tail) -> usize
+    ensures { λ r. ⌜ r ≡ pastPieces tail ⌝ }
+{
+    match tail {
+        Tail::Nothing => 8,
+        Tail::Numbers => 18,
+        Tail::Arguments => 24,
+    }
+}
+
+// ---- the outline of a kind
 
 // No piece, and none that can be written where the number is negative.
 fn checked(value: i32) -> Piece
@@ -64,7 +217,7 @@ fn count_piece(tail: Tail, count: usize) -> Piece
 }
 
 // A record with nothing behind its fields.
-fn outline_with(number: Piece, client: Piece, size: Piece, plan: Plan) -> Outline
+pub fn outline_with(number: Piece, client: Piece, size: Piece, plan: Plan) -> Outline
     ensures { λ r. ⌜ r ≡ outlineWith number client size plan Piece.Empty Tail.Nothing ⌝ }
 {
     Outline {
@@ -78,16 +231,11 @@ fn outline_with(number: Piece, client: Piece, size: Piece, plan: Plan) -> Outlin
 }
 
 // What has no written form.
-fn never() -> Outline
+pub fn never() -> Outline
     ensures { λ r. ⌜ r ≡ unwritable ⌝ }
 {
     let none = Piece::Empty;
-    outline_with(
-        Piece::Never,
-        none,
-        none,
-        pieces::plan_with(none, none, none, none),
-    )
+    outline_with(Piece::Never, none, none, plan_with(none, none, none, none))
 }
 
 fn form_with(client: Piece, shape: Shape, tail: Tail) -> Form
@@ -124,7 +272,7 @@ fn form_of(kind: Kind, first: i32) -> Form
 }
 
 // The record of a kind.
-fn kind_outline(kind: Kind, f: Fields, count: usize) -> Outline
+pub fn kind_outline(kind: Kind, f: Fields, count: usize) -> Outline
     ensures { λ r. ⌜ r ≡ kindOutline kind f count ⌝ }
 {
     let form = form_of(kind, f.first);
@@ -135,16 +283,16 @@ fn kind_outline(kind: Kind, f: Fields, count: usize) -> Outline
         number: Piece::Int(kind.number()),
         client,
         size: Piece::Empty,
-        plan: pieces::plan_of(shape, f),
+        plan: plan_of(shape, f),
         count: count_piece(tail, count),
         tail,
     }
 }
 
-// ---- the outline of a record
+// ---- the outline of an extension
 
 // The number of an extension, which has no written form in version 1.
-fn ex_number(version: Version) -> Piece
+pub fn ex_number(version: Version) -> Piece
     ensures { λ r. ⌜ r ≡ exNumber version ⌝ }
 {
     match version {
@@ -153,35 +301,8 @@ fn ex_number(version: Version) -> Piece
     }
 }
 
-// One of the extensions: its number, its identifier, the size of its data, the data. It may have 2147483647 bytes.
-fn named_outline(
-    version: Version,
-    which: Extension,
-    s: &[u8],
-    f: Fields,
-    ten: [i32; 10],
-    args: Args,
-) -> Outline
-    ensures { λ r. ⌜ Outlines version (now (s .entry)) (fromFields (Named which) f) ten args r ⌝ }
-{
-    let none = Piece::Empty;
-    let plan = pieces::payload_plan(extensions::payload_of(which), f);
-    let data = outline_with(none, none, none, plan);
-    let left = pieces::measure(Left::Room(2147483647), data, s, ten, args);
-    match left {
-        Left::Room(room) => outline_with(
-            ex_number(version),
-            Piece::Id(which),
-            Piece::Int((2147483647 - room) as i32),
-            plan,
-        ),
-        Left::Short => never(),
-        Left::Unwritable => never(),
-    }
-}
-
 // Another extension: an identifier that is none of the 20, and data.
-fn other_outline(version: Version, s: &[u8], f: Fields, ten: [i32; 10], args: Args) -> Outline
+pub fn other_outline(version: Version, s: &[u8], f: Fields, ten: [i32; 10], args: Args) -> Outline
     ensures { λ r. ⌜ Outlines version (now (s .entry)) (fromFields Other f) ten args r ⌝ }
 {
     let none = Piece::Empty;
@@ -195,25 +316,7 @@ fn other_outline(version: Version, s: &[u8], f: Fields, ten: [i32; 10], args: Ar
             ex_number(version),
             none,
             none,
-            pieces::plan_with(id, Piece::Data(words), none, none),
+            plan_with(id, Piece::Data(words), none, none),
         ),
-    }
-}
-
-// The outline of a record that is taken apart.
-pub fn outline_of(
-    version: Version,
-    tag: Tag,
-    s: &[u8],
-    f: Fields,
-    ten: [i32; 10],
-    args: Args,
-) -> Outline
-    ensures { λ r. ⌜ Outlines version (now (s .entry)) (fromFields tag f) ten args r ⌝ }
-{
-    match tag {
-        Tag::Plain(kind) => kind_outline(kind, f, args.count),
-        Tag::Named(which) => named_outline(version, which, s, f, ten, args),
-        Tag::Other => other_outline(version, s, f, ten, args),
     }
 }

@@ -1,3 +1,4 @@
+pub mod Leaves
 pub mod Puts
 pub mod Room
 pub mod Whole

@@ -13,11 +13,11 @@ use Rattle.varint.specs.Written.{wroteIf, writtenIf}
 use Rattle.varint.specs.declared.Wrote.{Wrote}
 use Rattle.varint.specs.declared.Wrote.the-variants.{Refused}
 use Rattle.varint.proofs.Writing.{short}
-use Rattle.pieces.specs.steps.Pieces.{leftAfter}
-use Rattle.pieces.specs.declared.Left.{Left}
-use Rattle.pieces.specs.declared.Left.the-variants.{Room, Short, Unwritable}
-use Rattle.pieces.proofs.Pieces.{room-left, too-short, not-ok}
-use Rattle.record_writer.specs.steps.Puts.{Ready, roomAt}
+use Rattle.record_writer.specs.steps.Room.{leftAfter, roomAt}
+use Rattle.record_writer.specs.declared.Left.{Left}
+use Rattle.record_writer.specs.declared.Left.the-variants.{Room, Short, Unwritable}
+use Rattle.record_writer.proofs.Leaves.{room-left, too-short, not-ok}
+use Rattle.record_writer.specs.steps.Puts.{Ready}
 
 module _ (k : ℕ) where
   none-left : (ok : Bool) (m : ℕ) → leftAfter Short ok k ≡ Room m → ⊥

@@ -1,15 +1,12 @@
 -- Bytes put into a target that has room for them.
-use Prim.Native.Nat.{ℕ, _+_, _-_, _≤_}
+use Prim.Native.Nat.{ℕ, _+_, _≤_}
 use mathlib.Core.Path.{_≡_}
-use mathlib.Core.Bool.{Bool, true, cond}
+use mathlib.Core.Bool.{Bool, true}
 use mathlib.Core.List.{List}
 use lib.ListN.{length}
-use lib.Dec.{leb}
 use Rattle.varint.specs.Written.{written}
 use Rattle.varint.specs.declared.Wrote.{Wrote}
 use Rattle.varint.specs.declared.Wrote.the-variants.{Past, Refused}
-use Rattle.pieces.specs.declared.Left.{Left}
-use Rattle.pieces.specs.declared.Left.the-variants.{Room, Short}
 
 -- the place past what was written; another where it was refused
 abbrev pub pastOf : Wrote → ℕ → ℕ
@@ -26,7 +23,3 @@ Ready ok xs at bs = (ok ≡ true) × HasRoom xs at bs
 -- the place past the bytes, and the target after it
 abbrev pub PutsBytes : List ℕ → ℕ → List ℕ → ℕ → List ℕ → Type 0
 PutsBytes xs at bs next ys = (next ≡ at + length bs) × (ys ≡ written xs at bs)
-
--- the room from a place to an end
-abbrev pub roomAt : ℕ → ℕ → Left
-roomAt len at = cond (leb at len) (Room (len - at)) Short
