@@ -177,7 +177,7 @@ fn put_record(number: i32, cid: Cid, out: &mut [u8], at: usize) -> usize
 
 // Whether behind the place there is room for a word of so many bytes, so many numbers at their longest and the line's end.
 fn has_room(len: usize, at: usize, word: usize, numbers: usize) -> bool
-    ensures { λ r. ⌜ r ≡ leb (at + (word + 12 * decimals + 1)) len ⌝ }
+    ensures { λ r. ⌜ r ≡ leb (at + (word + 12 * numbers + 1)) len ⌝ }
 {
     if len < at {
         return false;
