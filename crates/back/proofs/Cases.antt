@@ -1,7 +1,7 @@
 -- An event that fits and one that doesn't; the events of a client by the tests that the code makes (b is the client's bits).
 -- Assumes nothing.
 use Prim.Native.Nat.{ℕ, _≤_, _<_}
-use mathlib.Core.Path.{_≡_, refl}
+use mathlib.Core.Path.{_≡_, refl, _∙_}
 use mathlib.Core.Bool.{Bool, true, false, not, _&&_}
 use mathlib.Core.List.{List}
 use native.Mathlib.Omega.{arith}
@@ -10,16 +10,21 @@ use lib.Dec.{eqb}
 use lib.IntN.{ℤ, pos, negsuc}
 use borrow.Author.Tests.{lt-ltb, le-ltb, not-true, not-false}
 use mir.Syntax.{w32}
-use mir.Val.{SFits, ofZ}
+use mir.Val.{SFits, toZ, ofZ}
 use Rattle.refusal.specs.declared.Refusal.the-variants.{BadState, NotLast}
 use Rattle.state.specs.State.{sameInt, xOf, yOf, tenOf, withPlayer}
 use Rattle.state.specs.declared.Entries.{Entries}
-use Rattle.state.proofs.Numbers.{client-is}
+use Rattle.state.proofs.Numbers.{back, client-is}
 use Rattle.back.specs.Board.{board, goodBoard}
-use Rattle.back.specs.Back.{was, refused, onlyIf, sameAll, unPresent, unOld, formerInput, unInput, Undo, takeOff, takeBack, steppedFrom}
+use Rattle.back.specs.Back.{Back, was, refused, onlyIf, sameAll, unPresent, unOld, formerInput, unInput, Undo, takeOff, takeBack, steppedFrom}
 use Rattle.back.specs.declared.BoardTick.{BoardTick}
 use Rattle.back.specs.declared.BoardTick.the-variants.{In}
 use Rattle.back.specs.declared.Board.{Board}
+use Rattle.back.specs.declared.SteppedBack.{SteppedBack}
+
+-- a number is that of its bits
+abbrev pub Same : ℤ → Type 0
+Same z = toZ w32 (ofZ w32 z) ≡ z
 
 -- ---- fits or not
 
@@ -45,6 +50,12 @@ module _ (t : ℤ) (e : Entries) where
       → refused NotLast ≡ unInput t e z had ten former
   input-far (pos c) had ten former b f q h = rw (le-ltb c 128 (omega arith))
   input-far (negsuc c) had ten former b f q h = refl
+
+-- what code in tick t answers then
+pub far : {t : ℤ} {e : Entries} {r : SteppedBack} {a : Back} → SFits w32 t
+    → r ≡ steppedFrom (board (In (toZ w32 (ofZ w32 t))) e) (refused NotLast) → refused NotLast ≡ a
+    → r ≡ steppedFrom (board (In t) e) a
+far {t} {e} f p q = p ∙ (λ k. steppedFrom (board (In (back t f k)) e) (q k))
 
 -- ---- a client below 128
 

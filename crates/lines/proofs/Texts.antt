@@ -1,13 +1,13 @@
 -- The lines: how long they are, and from which parts they are put. Assumes nothing.
 use Prim.Native.Nat.{ℕ, _+_, _*_, _≤_, _<_}
-use mathlib.Core.Path.{_≡_, _∙_, ap}
-use mathlib.Core.Bool.{true}
+use mathlib.Core.Path.{_≡_, sym, _∙_, ap}
+use mathlib.Core.Bool.{Bool, true, false}
 use mathlib.Core.List.{List, [], _∷_, _++_, append-assoc}
 use native.Mathlib.Omega.{arith}
 use lib.ListN.{length, length-append}
 use lib.IntN.{ℤ}
 use lib.Dec.{leb}
-use borrow.Author.Tests.{le-leb, lt-leb, leb-true}
+use borrow.Author.Tests.{le-leb, lt-leb, leb-true, leb-false}
 use Rattle.refusal.specs.declared.Refusal.the-variants.{ShortTarget}
 use Rattle.varint.specs.declared.Wrote.{Wrote}
 use Rattle.varint.specs.declared.Wrote.the-variants.{Past, Refused}
@@ -133,6 +133,14 @@ module _ (most : ℕ) (xs : List ℕ) (at : ℕ) (text : List ℕ) where
   pub line-put : at + most ≤ length xs → (next : ℕ) (ys : List ℕ) → Put xs at text next ys
       → (Past next ≡ textAnswer most xs at text) × (ys ≡ textTarget most xs at text)
   line-put h next ys p = let t = le-leb (at + most) (length xs) h in rw t (ap Past (p .0), p .1)
+
+-- the test of the room, of a target of n bytes
+module _ (at n : ℕ) (t : Bool) (e : t ≡ leb (at + longest) n) where
+  pub has-room : t ≡ true → at + longest ≤ n
+  has-room h = leb-true (at + longest) n (sym e ∙ h)
+
+  pub no-room : t ≡ false → n < at + longest
+  no-room h = leb-false (at + longest) n (sym e ∙ h)
 
 -- where the longest line fits, a shorter one is written
 pub roomy : (most : ℕ) (xs : List ℕ) (at : ℕ) (text : List ℕ) → leb (at + longest) (length xs) ≡ true → most ≤ longest

@@ -7,7 +7,8 @@ use lib.Dec.{ltb}
 use lib.IntN.{ℤ, pos, negsuc, _+ℤ_}
 use borrow.Author.Tests.{lt-ltb, le-ltb}
 use mir.Syntax.{w32}
-use mir.Val.{SFits, ofZ}
+use mir.Val.{SFits, toZ, ofZ}
+use Rattle.refusal.specs.declared.Refusal.{Refusal}
 use Rattle.refusal.specs.declared.Refusal.the-variants.{
   ClientTooLarge,
   PlayerNewDuplicate,
@@ -20,7 +21,7 @@ use Rattle.state.specs.State.{Memory, withEntries, present, xOf, yOf, withPlaye
 use Rattle.state.specs.Reading.{playerNew, playerChange, playerOld, stepOf, refusalStep, playerDiff, newPlayer, oldPlayer}
 use Rattle.state.specs.steps.Inside.{noEntry}
 use Rattle.state.specs.declared.Scalars.{Scalars}
-use Rattle.state.proofs.Numbers.{picks-first, picks-second, client-is}
+use Rattle.state.proofs.Numbers.{picks-first, picks-second, bits-are, client-is}
 use Rattle.state.proofs.Marks.{here, away, far}
 
 -- ---- PlayerDiff
@@ -45,11 +46,15 @@ module _ (s : Scalars) (m : Memory) (z dx dy : ℤ) (n b : ℕ) (f : SFits w32 z
 
 -- ---- PlayerNew
 
-pub new-far : (s : Scalars) (m : Memory) (z x y : ℤ) (n b : ℕ) → SFits w32 z → b ≡ ofZ w32 z → 128 ≤ b
+new-off : (s : Scalars) (m : Memory) (z x y : ℤ) (n b : ℕ) → SFits w32 z → b ≡ ofZ w32 z → 128 ≤ b
     → refusalStep (noEntry b ClientTooLarge) s m ≡ newPlayer s m z x y n
 unfolding newPlayer
-new-far s m (pos c) x y n b f e h = rw (e, lt-ltb c 2147483648 (f .sfits)) (picks-second (ltb c 128) _ _ (le-ltb c 128 (omega arith)))
-new-far s m (negsuc c) x y n b f e h = rw (le-ltb b 2147483648 (omega (arith, f .sfits)))
+new-off s m (pos c) x y n b f e h = rw (e, lt-ltb c 2147483648 (f .sfits)) (picks-second (ltb c 128) _ _ (le-ltb c 128 (omega arith)))
+new-off s m (negsuc c) x y n b f e h = rw (le-ltb b 2147483648 (omega (arith, f .sfits)))
+
+pub new-far : (s : Scalars) (m : Memory) (z x y : ℤ) (n b : ℕ) (why : Refusal) → SFits w32 z
+    → b ≡ ofZ w32 (toZ w32 (ofZ w32 z)) → 128 ≤ b → why ≡ noEntry b ClientTooLarge → refusalStep why s m ≡ newPlayer s m z x y n
+new-far s m z x y n b why f e h q = rw q (new-off s m z x y n b f (bits-are z b f e) h)
 
 module _ (s : Scalars) (m : Memory) (z x y : ℤ) (n b : ℕ) (f : SFits w32 z) (e : b ≡ ofZ w32 z) (h : b < 128) where
   pub new-here : getD (m .entries .marks) b 0 ≡ 1
@@ -68,11 +73,15 @@ module _ (s : Scalars) (m : Memory) (z x y : ℤ) (n b : ℕ) (f : SFits w32 z) 
 
 -- ---- PlayerOld
 
-pub old-far : (s : Scalars) (m : Memory) (z : ℤ) (n b : ℕ) → SFits w32 z → b ≡ ofZ w32 z → 128 ≤ b
+old-off : (s : Scalars) (m : Memory) (z : ℤ) (n b : ℕ) → SFits w32 z → b ≡ ofZ w32 z → 128 ≤ b
     → refusalStep (noEntry b PlayerOldWithoutNew) s m ≡ oldPlayer s m z n
 unfolding oldPlayer
-old-far s m (pos c) n b f e h = rw (e, lt-ltb c 2147483648 (f .sfits)) (picks-second (present (m .entries) c) _ _ (far (m .entries .marks) c (omega arith)))
-old-far s m (negsuc c) n b f e h = rw (le-ltb b 2147483648 (omega (arith, f .sfits)))
+old-off s m (pos c) n b f e h = rw (e, lt-ltb c 2147483648 (f .sfits)) (picks-second (present (m .entries) c) _ _ (far (m .entries .marks) c (omega arith)))
+old-off s m (negsuc c) n b f e h = rw (le-ltb b 2147483648 (omega (arith, f .sfits)))
+
+pub old-far : (s : Scalars) (m : Memory) (z : ℤ) (n b : ℕ) (why : Refusal) → SFits w32 z
+    → b ≡ ofZ w32 (toZ w32 (ofZ w32 z)) → 128 ≤ b → why ≡ noEntry b PlayerOldWithoutNew → refusalStep why s m ≡ oldPlayer s m z n
+old-far s m z n b why f e h q = rw q (old-off s m z n b f (bits-are z b f e) h)
 
 module _ (s : Scalars) (m : Memory) (z : ℤ) (n b : ℕ) (f : SFits w32 z) (e : b ≡ ofZ w32 z) (h : b < 128) where
   pub old-away : (getD (m .entries .marks) b 0 ≡ 1 → ⊥) → refusalStep PlayerOldWithoutNew s m ≡ oldPlayer s m z n

@@ -139,10 +139,10 @@ fn open_told(
         ys,
         held,
         inputs,
-        &mut input,
-        &mut former,
         window,
         last,
+        &mut input,
+        &mut former,
     );
     let answer = o.answer;
     let scalars = o.scalars;

@@ -34,13 +34,13 @@ fn with_rule(
     ys: &mut [i32; 128],
     held: &mut [u8; 128],
     inputs: &mut [i32; 1280],
-    input: &mut [i32; 10],
-    former: &mut [i32; 10],
     kind: Kind,
     w: &[u8],
     at: usize,
     last: bool,
     rule: Rule,
+    input: &mut [i32; 10],
+    former: &mut [i32; 10],
 ) -> Outcome
     ensures { λ r. ⌜
         done r (memory (now (marks .exit)) (now (xs .exit)) (now (ys .exit)) (now (held .exit)) (now (inputs .exit)) (now (input .exit)) (now (former .exit)))
@@ -87,10 +87,10 @@ pub fn open_call(
     ys: &mut [i32; 128],
     held: &mut [u8; 128],
     inputs: &mut [i32; 1280],
-    input: &mut [i32; 10],
-    former: &mut [i32; 10],
     w: &[u8],
     last: bool,
+    input: &mut [i32; 10],
+    former: &mut [i32; 10],
 ) -> Outcome
     ensures { λ r. ⌜
         done r (memory (now (marks .exit)) (now (xs .exit)) (now (ys .exit)) (now (held .exit)) (now (inputs .exit)) (now (input .exit)) (now (former .exit)))
@@ -110,13 +110,13 @@ pub fn open_call(
                 ys,
                 held,
                 inputs,
-                input,
-                former,
                 kind,
                 w,
                 next,
                 last,
                 rule,
+                input,
+                former,
             )
         }
         KindRead::RunsOut => state::run_out(s, last),
@@ -148,5 +148,5 @@ pub fn good_call(
             scalars: s,
         };
     }
-    open_call(s, marks, xs, ys, held, inputs, input, former, w, last)
+    open_call(s, marks, xs, ys, held, inputs, w, last, input, former)
 }

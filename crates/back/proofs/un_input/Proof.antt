@@ -10,7 +10,7 @@ use Rattle.state.proofs.Numbers.{back, bits-are}
 use Rattle.back.specs.Board.{board}
 use Rattle.back.specs.Back.{sameAll, formerInput, steppedFrom}
 use Rattle.back.specs.declared.BoardTick.the-variants.{In}
-use Rattle.back.proofs.Cases.{fitting, unfit, input-far, input-near}
+use Rattle.back.proofs.Cases.{fitting, unfit, far, input-far, input-near}
 use Rattle.back.proofs.un_input.Statement.{statement}
 use Rattle.back.proofs.un_input.Tie as tie
 
@@ -19,9 +19,7 @@ returns c =
     let st = c .before .before .before in
     let a = st .args in
     let b = bits-are (a .cid) _ (st .fits .cid) (c .before .before .bits .ensures) in
-    rw (back (a .t) (st .fits .t)) at (c .not-last .ensures)
-    ∙ ap (steppedFrom (board (In (a .t)) (a .t2)))
-    (input-far (a .t) (a .t2) (a .cid) (a .had) (a .input) (a .former) _ (st .fits .cid) b (c .before .if1 .taken))
+    far (st .fits .t) (c .not-last .ensures) (input-far (a .t) (a .t2) (a .cid) (a .had) (a .input) (a .former) _ (st .fits .cid) b (c .before .if1 .taken))
 
 returns-2 : tie.Need-returns-2
 returns-2 c =

@@ -10,7 +10,7 @@ use Rattle.state.proofs.Numbers.{back, bits-are, element}
 use Rattle.back.specs.Board.{board}
 use Rattle.back.specs.Back.{steppedFrom}
 use Rattle.back.specs.declared.BoardTick.the-variants.{In}
-use Rattle.back.proofs.Cases.{fitting, unfit, present-far, present-near}
+use Rattle.back.proofs.Cases.{fitting, unfit, far, present-far, present-near}
 use Rattle.back.proofs.un_present.Statement.{statement}
 use Rattle.back.proofs.un_present.Tie as tie
 
@@ -19,9 +19,7 @@ returns c =
     let st = c .before .before .before in
     let a = st .args in
     let b = bits-are (a .cid) _ (st .fits .cid) (c .before .before .bits .ensures) in
-    rw (back (a .t) (st .fits .t)) at (c .not-last .ensures)
-    ∙ ap (steppedFrom (board (In (a .t)) (a .t2)))
-    (present-far (a .t) (a .t2) (a .cid) (a .x) (a .y) (a .mark) (a .old-x) (a .old-y) _ (st .fits .cid) b (c .before .if1 .taken))
+    far (st .fits .t) (c .not-last .ensures) (present-far (a .t) (a .t2) (a .cid) (a .x) (a .y) (a .mark) (a .old-x) (a .old-y) _ (st .fits .cid) b (c .before .if1 .taken))
 
 -- the test of the position
 placed : (c : tie.After-at-position)

@@ -7,15 +7,6 @@ use Rattle.inputs.proofs.Cases.{new-far, new-here}
 use Rattle.inputs.proofs.input_new.Statement.{statement}
 use Rattle.inputs.proofs.input_new.Tie as tie
 
-returns : tie.Need-returns
-returns c marks xs ys =
-    let st = c .before .before .before .before in
-    let a = st .args in
-    let m = memory marks xs ys (a .held .now) (a .inputs .now) (a .input .now) (a .former .now) in
-    let b = bits-are (a .cid) _ (st .fits .cid) (c .before .before .before .bits .ensures) in
-    rw (c .before .no-entry .ensures) at (c .refuse .ensures m)
-    ∙ new-far (a .s) m (a .cid) (a .ns) (a .used) _ (st .fits .cid) b (c .before .before .if1 .taken)
-
 returns-2 : tie.Need-returns-2
 returns-2 c marks xs ys =
     let st = c .before .before .before .before .before .before .before .before in
@@ -29,6 +20,9 @@ returns-2 c marks xs ys =
 pub input-new-spec : {M : Type 1} → statement M
 input-new-spec =
     tie.close
-    (tie.spec (λ c κs. search needs) (λ c κs. search needs) (λ c κs. search needs) returns
+    (tie.spec (λ c κs. search needs) (λ c κs. search needs) (λ c κs. search needs)
+    (λ c marks xs ys. let st = c .before .before .before .before in let a = st .args in let m = memory marks xs ys (a .held .now) (a .inputs .now) (a .input .now) (a .former .now) in
+    c .refuse .ensures m
+    ∙ new-far (a .s) m (a .cid) (a .ns) (a .used) _ _ (st .fits .cid) (c .before .before .before .bits .ensures) (c .before .before .if1 .taken) (c .before .no-entry .ensures))
     (λ c. search needs) (λ c. search needs) (λ c κs. search needs) (λ c κs. search needs) (λ c. search needs)
     (λ c κs. search needs) returns-2)

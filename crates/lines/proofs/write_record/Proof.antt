@@ -1,20 +1,16 @@
 -- `lines::write_record` meets its contract. Assumes nothing.
 use Prim.Native.Nat.{_+_, _≤_}
-use mathlib.Core.Path.{sym, _∙_}
 use borrow.Author.Needs.{needs}
-use borrow.Author.Tests.{leb-true, leb-false}
 use lib.ListN.{length}
 use mir.Syntax.{w32}
 use mir.Facts.{toZ-ofZ}
 use Rattle.lines.specs.Lines.{recordLine, longest}
-use Rattle.lines.proofs.Texts.{too-short, line-put}
+use Rattle.lines.proofs.Texts.{too-short, line-put, has-room, no-room}
 use Rattle.lines.proofs.write_record.Statement.{statement}
 use Rattle.lines.proofs.write_record.Tie as tie
 
 room : (c : tie.Then1) → let a = c .before .before .before .args in a .at + longest ≤ length (a .out .now)
-room c =
-    let a = c .before .before .before .args in
-    leb-true (a .at + longest) (length (a .out .now)) (sym (c .before .has-longest .ensures) ∙ c .if1 .taken)
+room c = has-room _ _ _ (c .before .has-longest .ensures) (c .if1 .taken)
 
 returns : tie.Need-returns
 returns c =
@@ -27,8 +23,7 @@ returns c =
 returns-2 : tie.Need-returns-2
 returns-2 c =
     let a = c .before .before .before .args in
-    too-short longest (a .out .now) (a .at) (recordLine (a .number) (a .cid))
-    (leb-false (a .at + longest) (length (a .out .now)) (sym (c .before .has-longest .ensures) ∙ c .if1 .left))
+    too-short longest (a .out .now) (a .at) (recordLine (a .number) (a .cid)) (no-room _ _ _ (c .before .has-longest .ensures) (c .if1 .left))
 
 pub write-record-spec : {M : Type 1} → statement M
 write-record-spec =

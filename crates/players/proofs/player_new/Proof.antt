@@ -7,15 +7,6 @@ use Rattle.players.proofs.Cases.{new-far, new-here, new-away}
 use Rattle.players.proofs.player_new.Statement.{statement}
 use Rattle.players.proofs.player_new.Tie as tie
 
-returns : tie.Need-returns
-returns c held inputs input former =
-    let st = c .before .before .before .before in
-    let a = st .args in
-    let m = memory (a .marks .now) (a .xs .now) (a .ys .now) held inputs input former in
-    let b = bits-are (a .cid) _ (st .fits .cid) (c .before .before .before .bits .ensures) in
-    rw (c .before .no-entry .ensures) at (c .refuse .ensures m)
-    ∙ new-far (a .s) m (a .cid) (a .x) (a .y) (a .used) _ (st .fits .cid) b (c .before .before .if1 .taken)
-
 returns-2 : tie.Need-returns-2
 returns-2 c held inputs input former =
     let st = c .before .before .before .before .before in
@@ -39,6 +30,9 @@ returns-3 c held inputs input former =
 pub player-new-spec : {M : Type 1} → statement M
 player-new-spec =
     tie.close
-    (tie.spec (λ c κs. search needs) (λ c κs. search needs) (λ c κs. search needs) returns
+    (tie.spec (λ c κs. search needs) (λ c κs. search needs) (λ c κs. search needs)
+    (λ c held inputs input former. let st = c .before .before .before .before in let a = st .args in let m = memory (a .marks .now) (a .xs .now) (a .ys .now) held inputs input former in
+    c .refuse .ensures m
+    ∙ new-far (a .s) m (a .cid) (a .x) (a .y) (a .used) _ _ (st .fits .cid) (c .before .before .before .bits .ensures) (c .before .before .if1 .taken) (c .before .no-entry .ensures))
     (λ c. search needs) (λ c. search needs) (λ c. search needs) (λ c. search needs) (λ c. search needs)
     (λ c. search needs) (λ c. search needs) (λ c κs. search needs) returns-2 (λ c κs. search needs) returns-3)
