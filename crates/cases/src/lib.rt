@@ -161,10 +161,7 @@ pub fn window(s: &[u8], at: usize, end: usize) -> &[u8]
 pub fn past(at: usize, used: usize, end: usize) -> usize
     ensures { λ r. ⌜ r ≡ min (at + used) end ⌝ }
 {
-    if end < at {
-        return end;
-    }
-    if end - at < used {
+    if difference(end, at) <= used {
         return end;
     }
     at + used

@@ -31,7 +31,7 @@ use Rattle.records.specs.declared.ItemRead.{ItemRead}
 use Rattle.records.specs.declared.ItemRead.the-variants as items
 use Rattle.records.specs.declared.Rest.{Rest}
 use Rattle.records.specs.declared.Rest.the-variants as rests
-use Rattle.records.proofs.Rests.{byRest}
+use Rattle.records.proofs.Rests.{byRest, rest-told}
 
 -- ---- nothing stands beside a record
 
@@ -134,6 +134,11 @@ own-item (items.Got i next) =
     ap (λ (c : Content Part). got c next) (sym (own-values i []) ∙ ap (λ (vs : List (Value Part)). ownContent (content (itemOf i .tag) vs)) (append-nil (itemOf i .values)))
 own-item items.RunsOut = refl
 own-item (items.Refused r) = refl
+
+-- read as the code goes on after the kind
+pub own-by : (kind : Kind) (s : List ℕ) (at : ℕ) (r : Rest) (x : ItemRead) → itemIs x ≡ byRest kind r s at → restCode kind ≡ r
+    → itemIs x ≡ own (readRest kind s at)
+own-by kind s at r x e t = own-item x ∙ ap own (e ∙ rest-told kind s at r t)
 
 pub own-read : (x : ItemRead) (y : Reading (Content Part)) → itemIs x ≡ y → itemIs x ≡ own y
 own-read x y e = own-item x ∙ ap own e

@@ -4,7 +4,11 @@ use mathlib.Core.Path.{_≡_, refl, sym, _∙_, ap}
 use mathlib.Core.Bool.{true, false}
 use mathlib.Core.List.{List, [], _∷_}
 use native.Mathlib.Omega.{arith}
-use lib.IntN.{pos, negsuc}
+use lib.IntN.{ℤ, pos, negsuc}
+use lib.Signed.{mag, ltZ}
+use mir.Syntax.{w32}
+use mir.Val.{SFits, toZ, ofZ}
+use Rattle.num.proofs.Signs.{below-zero}
 use Rattle.refusal.specs.declared.Refusal.the-variants.{NegativeDt}
 use Rattle.varint.specs.Integers.{readInt}
 use Rattle.varint.specs.declared.Remark.{Remark}
@@ -102,9 +106,14 @@ module _ (s : List ℕ) (at : ℕ) where
   unfolding readRest
   dt-out e = rw e
 
-  pub dt-negative : (n next : ℕ) (r : Remark) → readInt s at ≡ ints.Got (negsuc n) next r → refused NegativeDt ≡ readRest kinds.TickSkip s at
+  dt-negative : (n next : ℕ) (r : Remark) → readInt s at ≡ ints.Got (negsuc n) next r → refused NegativeDt ≡ readRest kinds.TickSkip s at
   unfolding readRest
   dt-negative n next r e = rw e
+
+  -- by the code's test
+  pub dt-below : (z : ℤ) (next : ℕ) (r : Remark) → SFits w32 z → ltZ (toZ w32 (ofZ w32 z)) (pos 0) ≡ true → readInt s at ≡ ints.Got z next r
+      → refused NegativeDt ≡ readRest kinds.TickSkip s at
+  dt-below z next r h t e = dt-negative (mag z) next r (e ∙ ap (λ (y : ℤ). ints.Got y next r) (below-zero z h t))
 
   pub dt-got : (n next : ℕ) (r : Remark) → readInt s at ≡ ints.Got (pos n) next r
       → got (content (Plain kinds.TickSkip) (num (pos n) ∷ [])) next ≡ readRest kinds.TickSkip s at

@@ -4,8 +4,8 @@ use native.Mathlib.Omega.{arith}
 use mir.Syntax.{w32}
 use mir.Val.{SFits, toZ, ofZ}
 use lib.Signed.{mag}
-use Rattle.num.proofs.Signs.{below-zero, not-below-zero}
-use Rattle.records.proofs.Rests.{dt-out, dt-negative, dt-got}
+use Rattle.num.proofs.Signs.{not-below-zero}
+use Rattle.records.proofs.Rests.{dt-out, dt-below, dt-got}
 use borrow.Author.Needs.{needs}
 use Rattle.records.proofs.read_dt.Statement.{statement}
 use Rattle.records.proofs.read_dt.Tie as tie
@@ -20,9 +20,7 @@ returns-2 c =
     let f = c .before .before .value .given in
     let r = c .before .before .before .before in
     let a = r .before .before .args in
-    let h : SFits w32 (f .0 .0) = search needs in
-    let p = below-zero (f .0 .0) h (c .if1 .taken) in
-    dt-negative (a .s .now) (a .at) (mag (f .0 .0)) (f .0 .1 .0) (f .0 .1 .1 .0) (sym (r .read-int .ensures) ∙ f .1 ∙ rw p)
+    dt-below (a .s .now) (a .at) (f .0 .0) (f .0 .1 .0) (f .0 .1 .1 .0) (search needs) (c .if1 .taken) (sym (r .read-int .ensures) ∙ f .1)
 
 cast-t8 : tie.Need-cast-t8
 cast-t8 c =

@@ -4,7 +4,7 @@ use Rattle.item.specs.Records.{readRest}
 use Rattle.records.specs.steps.Views.{own}
 use Rattle.records.specs.declared.Rest.the-variants as rests
 use Rattle.records.proofs.Rests.{rest-told}
-use Rattle.records.proofs.Beside.{own-read}
+use Rattle.records.proofs.Beside.{own-by, own-read}
 use borrow.Author.Needs.{needs}
 use Rattle.records.proofs.read_item.Statement.{statement}
 use Rattle.records.proofs.read_item.Tie as tie
@@ -18,9 +18,7 @@ returns-2 : tie.Need-returns-2
 returns-2 c =
     let o = c .before .before .before in
     let a = o .before .before .args in
-    own-read (c .read-dt .result) (readRest (a .kind) (a .s .now) (a .at))
-    (c .read-dt .ensures
-    ∙ rest-told (a .kind) (a .s .now) (a .at) rests.Dt (sym (o .rest-of .ensures) ∙ c .before .enum-told .given .1))
+    own-by (a .kind) (a .s .now) (a .at) rests.Dt (c .read-dt .result) (c .read-dt .ensures) (sym (o .rest-of .ensures) ∙ c .before .enum-told .given .1)
 
 returns-3 : tie.Need-returns-3
 returns-3 c =
@@ -41,9 +39,7 @@ returns-5 : tie.Need-returns-5
 returns-5 c =
     let o = c .before .before .before in
     let a = o .before .before .args in
-    own-read (c .read-ex .result) (readRest (a .kind) (a .s .now) (a .at))
-    (c .read-ex .ensures
-    ∙ rest-told (a .kind) (a .s .now) (a .at) rests.Extension (sym (o .rest-of .ensures) ∙ c .before .enum-told3 .given .1))
+    own-by (a .kind) (a .s .now) (a .at) rests.Extension (c .read-ex .result) (c .read-ex .ensures) (sym (o .rest-of .ensures) ∙ c .before .enum-told3 .given .1)
 
 pub read-item-spec : {M : Type 1} → statement M
 read-item-spec =
