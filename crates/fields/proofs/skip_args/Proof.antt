@@ -21,9 +21,9 @@ returns-2 c =
     let r = c .before .before .before .before in
     let a = r .before .before .args in
     let h : SFits w32 (f .0 .0) = search needs in
-    let p = below-zero (f .0 .0) h (c .if1 .taken) in
-    let e = sym (r .read-int .ensures) ∙ f .1 in
-    ap (λ (x : ArgsRead). x .answer) (count-negative (a .s .now) (a .at) (mag (f .0 .0)) (f .0 .1 .0) (f .0 .1 .1 .0) (e ∙ rw p))
+    ap (λ (x : ArgsRead). x .answer)
+    (count-negative (a .s .now) (a .at) (mag (f .0 .0)) (f .0 .1 .0) (f .0 .1 .1 .0)
+    (sym (r .read-int .ensures) ∙ f .1 ∙ rw (below-zero (f .0 .0) h (c .if1 .taken))))
 
 returns-3 : tie.Need-returns-3
 returns-3 c =

@@ -22,7 +22,6 @@ input-new-spec =
     tie.close
     (tie.spec (λ c κs. search needs) (λ c κs. search needs) (λ c κs. search needs)
     (λ c marks xs ys. let st = c .before .before .before .before in let a = st .args in let m = memory marks xs ys (a .held .now) (a .inputs .now) (a .input .now) (a .former .now) in
-    c .refuse .ensures m
-    ∙ new-far (a .s) m (a .cid) (a .ns) (a .used) _ _ (st .fits .cid) (c .before .before .before .bits .ensures) (c .before .before .if1 .taken) (c .before .no-entry .ensures))
+    c .refuse .ensures m ∙ new-far (a .s) m (a .cid) (a .ns) (a .used) _ _ (st .fits .cid) (c .before .before .before .bits .ensures) (c .before .before .if1 .taken) (c .before .no-entry .ensures))
     (λ c. search needs) (λ c. search needs) (λ c κs. search needs) (λ c κs. search needs) (λ c. search needs)
     (λ c κs. search needs) returns-2)

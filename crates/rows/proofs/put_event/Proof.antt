@@ -8,7 +8,7 @@ use mir.Val.{toZ, ofZ}
 use borrow.Author.Needs.{needs}
 use Rattle.num.specs.Wrap.{wrap32}
 use Rattle.state.specs.Reading.{Event}
-use Rattle.state.proofs.Numbers.{back}
+use Rattle.state.proofs.Numbers.{back, Three}
 use Rattle.rows.specs.Rows.{eventRow, eventTens}
 use Rattle.rows.specs.steps.Stores.{place, EventPut}
 use Rattle.rows.proofs.Puts.{place-none}
@@ -25,40 +25,17 @@ row-only : {e : Event} {used : ℕ} {pending : ℤ} {i : ℕ} {ten former rows t
 row-only {i = i} {tens = tens} none row =
     record { rows = row; tens = sym (ap (λ (l : List ℤ). place 20 i l tens) none ∙ place-none 20 i tens) }
 
-returns : tie.Need-returns
-returns c =
-    let n = c .before .before .before .before .before .before .wrapped in
-    let g = c .before .before .before .before .event .given in
-    let b : Same (n .result) × Same (g .0 .0) = (search needs, search needs) in
-    rw (g .1) (row-only refl (rw (b .0, n .ensures, b .1) at (c .before .put-row .ensures)))
-
-returns-2 : tie.Need-returns-2
-returns-2 c =
-    let n = c .before .before .before .before .before .before .wrapped in
-    let g = c .before .before .before .before .event2 .given in
-    let b : Same (n .result) × Same (g .0 .0) = (search needs, search needs) in
-    rw (g .1) (row-only refl (rw (b .0, n .ensures, b .1) at (c .before .put-row2 .ensures)))
-
-returns-3 : tie.Need-returns-3
-returns-3 c =
-    let n = c .before .before .before .before .before .before .wrapped in
-    let g = c .before .before .before .before .event3 .given in
-    let b : Same (n .result) × (Same (g .0 .0) × (Same (g .0 .1 .0) × Same (g .0 .1 .1 .0))) = (search needs, (search needs, (search needs, search needs))) in
-    rw (g .1) (row-only refl (rw (b .0, n .ensures, b .1 .0, b .1 .1 .0, b .1 .1 .1) at (c .before .put-row3 .ensures)))
+-- the bytes used, as the row holds them
+used-is : (c : tie.After-wrapped) → toZ w32 (ofZ w32 (c .wrapped .result)) ≡ wrap32 (pos (c .before .args .used))
+used-is c = let b : Same (c .wrapped .result) = search needs in b ∙ c .wrapped .ensures
 
 returns-4 : tie.Need-returns-4
 returns-4 c =
-    let n = c .before .before .before .before .before .before .wrapped in
     let g = c .before .before .before .before .event4 .given in
-    let b : Same (n .result) × (Same (g .0 .0) × (Same (g .0 .1 .0) × (Same (g .0 .1 .1 .0) × (Same (g .0 .1 .1 .1 .0) × Same (g .0 .1 .1 .1 .1 .0))))) = (search needs, (search needs, (search needs, (search needs, (search needs, search needs))))) in
-    rw (g .1) (row-only refl (rw (b .0, n .ensures, b .1 .0, b .1 .1 .0, b .1 .1 .1 .0, b .1 .1 .1 .1 .0, b .1 .1 .1 .1 .1) at (c .before .put-row4 .ensures)))
-
-returns-5 : tie.Need-returns-5
-returns-5 c =
-    let n = c .before .before .before .before .before .before .wrapped in
-    let g = c .before .before .before .before .event5 .given in
-    let b : Same (n .result) × (Same (g .0 .0) × (Same (g .0 .1 .0) × Same (g .0 .1 .1 .0))) = (search needs, (search needs, (search needs, search needs))) in
-    rw (g .1) (row-only refl (rw (b .0, n .ensures, b .1 .0, b .1 .1 .0, b .1 .1 .1) at (c .before .put-row5 .ensures)))
+    let k : Three (g .0 .0) (g .0 .1 .0) (g .0 .1 .1 .0) = search needs in
+    let old-x : Same (g .0 .1 .1 .1 .0) = search needs in
+    let old-y : Same (g .0 .1 .1 .1 .1 .0) = search needs in
+    rw (g .1) (row-only refl (rw (used-is (c .before .before .before .before .before .before), k .first, k .second, k .third, old-x, old-y) at (c .before .put-row4 .ensures)))
 
 returns-6 : tie.Need-returns-6
 returns-6 c =
@@ -83,6 +60,17 @@ put-event-spec =
     (tie.spec (λ c κs. tt) (λ c. search needs) (λ c κs. tt) (λ c. search needs) (λ c κs. tt)
     (λ c. search needs) (λ c κs. tt) (λ c. search needs) (λ c κs. tt) (λ c. search needs)
     (λ c κs. tt) (λ c. search needs) (λ c κs. tt) (λ c κs. tt) (λ c κs. tt)
-    (λ c. search needs) (λ c κs. tt) (λ c. search needs) returns (λ c. search needs) returns-2
-    (λ c. search needs) returns-3 (λ c. search needs) returns-4 (λ c. search needs) returns-5 (λ c. search needs)
+    (λ c. search needs) (λ c κs. tt) (λ c. search needs)
+    (λ c. let g = c .before .before .before .before .event .given in let t : Same (g .0 .0) = search needs in
+    rw (g .1) (row-only refl (rw (used-is (c .before .before .before .before .before .before), t) at (c .before .put-row .ensures))))
+    (λ c. search needs)
+    (λ c. let g = c .before .before .before .before .event2 .given in let t : Same (g .0 .0) = search needs in
+    rw (g .1) (row-only refl (rw (used-is (c .before .before .before .before .before .before), t) at (c .before .put-row2 .ensures))))
+    (λ c. search needs)
+    (λ c. let g = c .before .before .before .before .event3 .given in let k : Three (g .0 .0) (g .0 .1 .0) (g .0 .1 .1 .0) = search needs in
+    rw (g .1) (row-only refl (rw (used-is (c .before .before .before .before .before .before), k .first, k .second, k .third) at (c .before .put-row3 .ensures))))
+    (λ c. search needs) returns-4 (λ c. search needs)
+    (λ c. let g = c .before .before .before .before .event5 .given in let k : Three (g .0 .0) (g .0 .1 .0) (g .0 .1 .1 .0) = search needs in
+    rw (g .1) (row-only refl (rw (used-is (c .before .before .before .before .before .before), k .first, k .second, k .third) at (c .before .put-row5 .ensures))))
+    (λ c. search needs)
     (λ c. search needs) returns-6 (λ c. search needs) returns-7)
