@@ -4,7 +4,6 @@
 use kinds::Version;
 use kinds::VersionOf;
 use libc::STDOUT_FILENO;
-use lines::Ending;
 use state::Answer;
 use state::Reader;
 use texts::Text;
@@ -21,88 +20,83 @@ fn number(n: usize) -> i32 {
     65536
 }
 
-// Where a body stands: its reader with the place, the end of the bytes at hand, and whether the flag is on; or that it is read.
-struct Spot {
-    reader: Reader,
+// Where a body stands: the place in it, the end of the bytes at hand, and whether the flag is on; or that it is read.
+struct Place {
     at: usize,
     end: usize,
     last: bool,
     over: bool,
 }
 
-fn more(spot: Spot, next: Reader, len: usize) -> Spot {
-    let before = spot.reader;
-    print(texts::plain(b"more", &[number(spot.at), number(spot.end)]));
+// What an answer prints.
+fn tell(place: Place, answer: Answer, input: [i32; 10]) {
+    let Answer::More = answer else {
+        print(texts::told(answer, input));
+        return;
+    };
+    print(texts::plain(b"more", &[number(place.at), number(place.end)]));
+}
+
+// A call that wants more bytes is to leave the reader as it was.
+fn compare(answer: Answer, before: Reader, next: Reader) {
+    let Answer::More = answer else {
+        return;
+    };
     if !alike::same_reader(before, next) {
         io::write_all(STDOUT_FILENO, b"more changes the reader\n");
     }
-    if spot.end < len {
-        return Spot {
-            reader: next,
-            at: spot.at,
-            end: spot.end + 1,
+}
+
+// One byte more at hand; or the flag.
+fn grown(place: Place, len: usize) -> Place {
+    if place.end < len {
+        return Place {
+            at: place.at,
+            end: place.end + 1,
             last: false,
             over: false,
         };
     }
-    Spot {
-        reader: next,
-        at: spot.at,
-        end: spot.end,
+    Place {
+        at: place.at,
+        end: place.end,
         last: true,
         over: false,
     }
 }
 
-fn ended(spot: Spot, ending: Ending) -> Spot {
-    let reader = spot.reader;
-    print(texts::last(ending));
-    Spot {
-        reader,
-        at: spot.at,
-        end: spot.end,
-        last: spot.last,
-        over: true,
-    }
-}
-
-// One call, and the spot after it.
-fn call(spot: Spot, body: &[u8]) -> Spot {
-    let reader = spot.reader;
-    let read = reader::read(reader, cases::window(body, spot.at, spot.end), spot.last);
-    let answer = read.answer;
-    let next = read.reader;
-    let input = read.input;
+// Where a body stands after an answer.
+fn after(place: Place, answer: Answer, len: usize) -> Place {
+    let mut next = place;
     match answer {
-        Answer::Event { event, used } => {
-            print(texts::line(event, input));
-            Spot {
-                reader: next,
-                at: cases::past(spot.at, used, spot.end),
-                end: spot.end,
-                last: spot.last,
-                over: false,
-            }
-        }
-        Answer::More => more(spot, next, body.len()),
-        Answer::Finish { used: _ } => ended(spot, Ending::Finish),
-        Answer::Refused(r) => ended(spot, Ending::Refused(r)),
+        Answer::Event { event: _, used } => next.at = cases::past(place.at, used, place.end),
+        Answer::More => next = grown(place, len),
+        Answer::Finish { used: _ } => next.over = true,
+        Answer::Refused(_) => next.over = true,
     }
+    next
 }
 
 fn read_body(version: Version, body: &[u8]) {
-    let mut spot = Spot {
-        reader: Reader::empty(version),
+    let mut reader = Reader::empty(version);
+    let mut place = Place {
         at: 0,
         end: 0,
         last: false,
         over: false,
     };
     for _ in 0..400000usize {
-        spot = call(spot, body);
-        if spot.over {
+        let read = reader::read(reader, cases::window(body, place.at, place.end), place.last);
+        let answer = read.answer;
+        let input = read.input;
+        let next = read.reader;
+        tell(place, answer, input);
+        compare(answer, reader, next);
+        place = after(place, answer, body.len());
+        if place.over {
             return;
         }
+        reader = next;
     }
 }
 

@@ -6,6 +6,4 @@ use Rattle.state_vectors.proofs.ended.Tie as tie
 
 pub ended-spec : {M : Type 1} → statement M
 ended-spec =
-    tie.close (tie.spec (λ body spot₀ counter₀ spot counter. counter ≤ 100) (λ body spot₀ counter₀ spot counter. 100 - counter)
-    (λ c κs. search needs) (λ c. search needs) (λ c κs. search needs) (λ c. search needs) (λ c. search needs) (λ c. search needs)
-    (λ c. search needs))
+    tie.close (tie.spec (λ body reader₀ at₀ counter₀ reader at counter. counter ≤ 100) (λ body reader₀ at₀ counter₀ reader at counter. 100 - counter) (λ c κs. search needs) (λ c. search needs) (λ c κs. search needs) (λ c κs. search needs) (λ c κs. search needs) (λ c. search needs) (λ c. search needs) (λ c κs. search needs) (λ c κs. search needs) (λ c. search needs) (λ c κs. search needs) (λ c. search needs) (λ c. search needs) (λ c. search needs) (λ c. search needs))

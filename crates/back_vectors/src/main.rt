@@ -1,0 +1,174 @@
+// Steps back that no body gives: a line for each case, its name and the answer. Refusals 17 and 19, each beside a step that passes; a
+// refusal is to leave the board as it was. After a step back stand the tick (0, or 1 and the tick) and the entries of client 5: mark, x, y,
+// mark of the input, its first and last number.
+// Standard input holds cases one behind the other, each after its length in a byte: the length of its name, the name, and the event's kind
+// (0 start, 1 end, 2 record, 3 new, 4 change, 5 old, 6 input with former numbers, 7 without), in a tick or not, the tick, client 5 there or
+// not, the event's numbers, of which the second of an input is the place of a number to change. A number is 100 more than it stands for.
+use back::BackAnswer;
+use back::Board;
+use back::BoardTick;
+use item::Item;
+use kinds::Version;
+use libc::STDOUT_FILENO;
+use state::Entries;
+use state::Event;
+use state::Reader;
+use texts::Text;
+
+fn say(text: &[u8]) {
+    io::write_all(STDOUT_FILENO, text);
+}
+
+fn print(text: Text) {
+    let bytes = text.bytes;
+    say(cases::window(&bytes, 0, text.len));
+}
+
+// ---- what a case holds
+
+fn size(b: u8) -> usize {
+    b as usize
+}
+
+fn signed(b: u8) -> i32 {
+    b as i32
+}
+
+fn byte(s: &[u8], i: usize) -> u8 {
+    if s.len() <= i {
+        return 0;
+    }
+    s[i]
+}
+
+fn number(s: &[u8], i: usize) -> i32 {
+    num::wrapping_add(signed(byte(s, i)), -100)
+}
+
+fn event_of(kind: u8, a: i32, x: i32, y: i32) -> Event {
+    match kind {
+        0 => Event::TickStart(a),
+        1 => Event::TickEnd(a),
+        2 => Event::Record(Item::Join { cid: a }),
+        3 => Event::PlayerNew { cid: a, x, y },
+        4 => Event::PlayerChange {
+            cid: a,
+            x,
+            y,
+            old_x: 30,
+            old_y: -40,
+        },
+        5 => Event::PlayerOld {
+            cid: a,
+            x: 30,
+            y: -40,
+        },
+        6 => Event::Input {
+            cid: a,
+            former: true,
+        },
+        _ => Event::Input {
+            cid: a,
+            former: false,
+        },
+    }
+}
+
+fn event_in(s: &[u8]) -> Event {
+    event_of(byte(s, 0), number(s, 4), number(s, 5), number(s, 6))
+}
+
+fn tick_in(s: &[u8]) -> BoardTick {
+    if byte(s, 1) == 1 {
+        return BoardTick::In(number(s, 2));
+    }
+    BoardTick::NoTick
+}
+
+const TEN: [i32; 10] = [1, 2, 3, 4, 5, 6, 7, 8, 9, 10];
+
+// Client 5 is at 10, 20 and has the input 1 to 10; or nobody is there.
+fn entries_in(s: &[u8]) -> Entries {
+    let reader = Reader::empty(Version::V1);
+    let mut entries = reader.entries;
+    if byte(s, 3) == 1 {
+        entries.marks[5] = 1;
+        entries.xs[5] = 10;
+        entries.ys[5] = 20;
+        entries.held[5] = 1;
+        inputs::put_ten_at(&mut entries.inputs, 5, TEN);
+    }
+    entries
+}
+
+// The numbers of client 5's input, of which one may be another.
+fn ten_in(s: &[u8]) -> [i32; 10] {
+    let mut ten = TEN;
+    let k = size(byte(s, 5));
+    if k < 10 {
+        ten[k] = 99;
+    }
+    ten
+}
+
+// ---- stepping back
+
+fn tick_numbers(tick: BoardTick) -> [i32; 2] {
+    match tick {
+        BoardTick::In(t) => [1, t],
+        BoardTick::NoTick => [0, 0],
+    }
+}
+
+fn say_board(board: Board) {
+    let tick = board.tick;
+    let entries = board.entries;
+    let t = tick_numbers(tick);
+    let ns = [
+        t[0],
+        t[1],
+        signed(entries.marks[5]),
+        entries.xs[5],
+        entries.ys[5],
+        signed(entries.held[5]),
+        entries.inputs[50],
+        entries.inputs[59],
+    ];
+    print(texts::plain(b" back", &ns));
+}
+
+fn step(board: Board, event: Event, input: [i32; 10]) {
+    let stepped = back::step_back(board, event, input, [11; 10]);
+    let answer = stepped.answer;
+    let before = stepped.board;
+    match answer {
+        BackAnswer::Back => say_board(before),
+        BackAnswer::Refused(r) => {
+            say(b" ");
+            print(texts::refused(r));
+            if !alike::same_board(board, before) {
+                say(b"the board is changed\n");
+            }
+        }
+    }
+}
+
+fn step_case(s: &[u8]) {
+    let tick = tick_in(s);
+    let entries = entries_in(s);
+    step(Board { tick, entries }, event_in(s), ten_in(s));
+}
+
+fn run_case(case: &[u8]) {
+    let end = cases::past(1, size(byte(case, 0)), case.len());
+    say(cases::window(case, 1, end));
+    step_case(cases::window(case, end, case.len()));
+}
+
+fn main() {
+    let mut buf = io::large_buffer();
+    let n = io::read_full(0, &mut buf);
+    for k in 0..cases::count(&buf[..n], 1) {
+        run_case(cases::nth(&buf[..n], 1, k));
+    }
+}
