@@ -3,6 +3,7 @@
 use kinds::Version;
 use kinds::VersionOf;
 use libc::STDOUT_FILENO;
+use reader::ReadAnswer;
 use state::Reader;
 use texts::Text;
 use texts::Used;
@@ -12,22 +13,51 @@ fn print(text: Text) {
     io::write_all(STDOUT_FILENO, cases::window(&bytes, 0, text.len));
 }
 
-// A body read whole: every window reaches to its end and is the last. A call uses a byte or answers an event of a pending kind, of which
-// there are at most two for a byte.
+// A reader, its place in the body, and whether the body is read.
+struct Spot {
+    reader: Reader,
+    at: usize,
+    over: bool,
+}
+
+// A call's line, and the spot after it.
+fn told(read: ReadAnswer, at: usize, len: usize) -> Spot {
+    let answer = read.answer;
+    let input = read.input;
+    let next = read.reader;
+    print(texts::told(answer, input));
+    match texts::used_in(answer) {
+        Used::Bytes(used) => Spot {
+            reader: next,
+            at: cases::past(at, used, len),
+            over: false,
+        },
+        Used::NoEvent => Spot {
+            reader: next,
+            at,
+            over: true,
+        },
+    }
+}
+
+// A call whose window reaches to the body's end and is the last.
+fn read_at(spot: Spot, body: &[u8]) -> ReadAnswer {
+    let reader = spot.reader;
+    reader::read(reader, cases::window(body, spot.at, body.len()), true)
+}
+
+// A body read whole. A call uses a byte or answers an event of a pending kind, of which there are at most two for a byte.
 fn read_body(version: Version, body: &[u8]) {
-    let mut reader = Reader::empty(version);
-    let mut at: usize = 0;
+    let mut spot = Spot {
+        reader: Reader::empty(version),
+        at: 0,
+        over: false,
+    };
     for _ in 0..400000usize {
-        let read = reader::read(reader, cases::window(body, at, body.len()), true);
-        let answer = read.answer;
-        let input = read.input;
-        print(texts::told(answer, input));
-        let Used::Bytes(used) = texts::used_in(answer) else {
+        spot = told(read_at(spot, body), spot.at, body.len());
+        if spot.over {
             return;
-        };
-        at = cases::past(at, used, body.len());
-        let next = read.reader;
-        reader = next;
+        }
     }
 }
 

@@ -6,11 +6,8 @@ use feed::Hand;
 use kinds::Version;
 use kinds::VersionOf;
 use libc::STDOUT_FILENO;
-use lines::Ending;
-use packer::PartRead;
 use refusal::Refusal;
 use state::Reader;
-use varint::Wrote;
 
 // The first n bytes.
 fn print(text: &[u8], n: usize) {
@@ -91,42 +88,23 @@ fn replay(version: Version, body: &[u8], rows: &mut [i32], tens: &mut [i32], out
     }
 }
 
-fn refuse(refusal: Refusal) {
-    let mut line = [0u8; 138];
-    let Wrote::Past(n) = lines::write_last(Ending::Refused(refusal), &mut line, 0) else {
-        return;
-    };
-    print(&line, n);
+fn refuse(why: Refusal) {
+    let text = texts::refused(why);
+    let bytes = text.bytes;
+    print(&bytes, text.len);
 }
 
-fn number(b: u8) -> i32 {
-    b as i32
-}
-
-fn run_case(input: &[u8]) {
+fn run_body(version: Version, body: &[u8]) {
     let mut rows = [0i32; 27];
     let mut tens = [0i32; 70];
     let mut out = [0u8; 600];
-    if input.len() == 0 {
-        refuse(Refusal::UnknownVersion);
-        return;
-    }
-    match kinds::version_of(number(input[0])) {
-        VersionOf::Is(version) => replay(version, &input[1..], &mut rows, &mut tens, &mut out),
-        VersionOf::Refused(r) => refuse(r),
-    }
+    replay(version, body, &mut rows, &mut tens, &mut out);
 }
 
-fn run(s: &[u8]) {
-    let mut at: usize = 0;
-    let mut turns: usize = 0;
-    while turns < s.len() {
-        turns += 1;
-        let PartRead::Got { part, next } = cases::case_at(s, at, 3) else {
-            return;
-        };
-        run_case(packer::show(s, part));
-        at = next;
+fn run_case(input: &[u8]) {
+    match kinds::version_of(cases::first(input)) {
+        VersionOf::Is(version) => run_body(version, cases::window(input, 1, input.len())),
+        VersionOf::Refused(r) => refuse(r),
     }
 }
 
@@ -139,5 +117,7 @@ fn buffer() -> [u8; 1048576]
 fn main() {
     let mut buf = buffer();
     let n = io::read_full(0, &mut buf);
-    run(&buf[..n]);
+    for k in 0..cases::count(&buf[..n], 3) {
+        run_case(cases::nth(&buf[..n], 3, k));
+    }
 }

@@ -3,192 +3,155 @@
 // the end. Standard input is as that of reader_vectors.
 use back::BackAnswer;
 use back::Board;
-use back::BoardTick;
+use back::SteppedBack;
 use kinds::Version;
 use kinds::VersionOf;
 use libc::STDOUT_FILENO;
-use packer::PartRead;
 use reader::ReadAnswer;
+use refusal::Refusal;
 use state::Answer;
-use state::Event;
 use state::Reader;
-use varint::Wrote;
+use texts::Text;
+use texts::Used;
 
-// A reader and its place in the body.
+fn say(text: &[u8]) {
+    io::write_all(STDOUT_FILENO, text);
+}
+
+fn print(text: Text) {
+    let bytes = text.bytes;
+    say(cases::window(&bytes, 0, text.len));
+}
+
+// A reader, its place in the body, how many events it has read, and whether no other follows.
 struct Spot {
     reader: Reader,
     at: usize,
-}
-
-// The first n bytes.
-fn print_start(line: &[u8], n: usize) {
-    io::write_all(STDOUT_FILENO, cases::window(line, 0, n));
-}
-
-fn print_line(event: Event, input: [i32; 10]) {
-    let mut line = [0u8; 256];
-    let Wrote::Past(n) = event_lines::write_line(event, input, &mut line, 0) else {
-        return;
-    };
-    print_start(&line, n);
+    events: usize,
+    over: bool,
 }
 
 // A reading call at a spot; the window reaches to the body's end.
 fn read_at(spot: Spot, body: &[u8]) -> ReadAnswer {
     let reader = spot.reader;
-    let at = spot.at;
-    reader::read(reader, cases::window(body, at, body.len()), true)
+    reader::read(reader, cases::window(body, spot.at, body.len()), true)
 }
 
-// The bytes that an event used; a call without an event ends the walk.
-enum Used {
-    Bytes(usize),
-    NoEvent,
-}
-
-fn used_in(answer: Answer) -> Used {
-    match answer {
-        Answer::Event { event: _, used } => Used::Bytes(used),
-        Answer::More => Used::NoEvent,
-        Answer::Finish { used: _ } => Used::NoEvent,
-        Answer::Refused(_) => Used::NoEvent,
-    }
-}
-
-// How many events the body has before a finish or a refusal.
-fn count_events(version: Version, body: &[u8]) -> usize {
-    let mut spot = Spot {
-        reader: Reader::empty(version),
-        at: 0,
-    };
-    let mut n: usize = 0;
-    while n < 100000 {
-        let read = read_at(spot, body);
-        let answer = read.answer;
-        let next = read.reader;
-        let Used::Bytes(used) = used_in(answer) else {
-            return n;
-        };
-        spot = Spot {
+// The spot past the event of a call at a spot.
+fn past(spot: Spot, read: ReadAnswer, len: usize) -> Spot {
+    let answer = read.answer;
+    let before = spot.reader;
+    let next = read.reader;
+    match texts::used_in(answer) {
+        Used::Bytes(used) => Spot {
             reader: next,
-            at: cases::past(spot.at, used, body.len()),
-        };
-        n += 1;
+            at: cases::past(spot.at, used, len),
+            events: cases::past(spot.events, 1, 100000),
+            over: false,
+        },
+        Used::NoEvent => Spot {
+            reader: before,
+            at: spot.at,
+            events: spot.events,
+            over: true,
+        },
     }
-    n
 }
 
-// The reader after so many events.
-fn after(version: Version, body: &[u8], n: usize) -> Spot {
+// The reader after so many events, or after as many as there are.
+fn after(version: Version, body: &[u8], most: usize) -> Spot {
     let mut spot = Spot {
         reader: Reader::empty(version),
         at: 0,
+        events: 0,
+        over: false,
     };
-    let mut k: usize = 0;
-    while k < n {
-        let read = read_at(spot, body);
-        let answer = read.answer;
-        let next = read.reader;
-        let Used::Bytes(used) = used_in(answer) else {
+    for _ in 0..most {
+        spot = past(spot, read_at(spot, body), body.len());
+        if spot.over {
             return spot;
-        };
-        spot = Spot {
-            reader: next,
-            at: cases::past(spot.at, used, body.len()),
-        };
-        k += 1;
+        }
     }
     spot
 }
 
-fn same_tick(a: BoardTick, b: BoardTick) -> bool {
-    match a {
-        BoardTick::In(t) => match b {
-            BoardTick::In(u) => t == u,
-            BoardTick::NoTick => false,
-        },
-        BoardTick::NoTick => match b {
-            BoardTick::In(_) => false,
-            BoardTick::NoTick => true,
-        },
-    }
-}
-
-fn same_board(a: Board, b: Board) -> bool {
-    let s = a.tick;
-    let t = b.tick;
-    let e = a.entries;
-    let f = b.entries;
-    good::both(same_tick(s, t), alike::same_entries(e, f))
-}
-
-// One step back over the event of the call at a spot, which is to give the board there.
-fn one_back(board: Board, spot: Spot, body: &[u8]) -> Board {
-    let read = read_at(spot, body);
+// The event of a call taken off a board.
+fn undone(board: Board, read: ReadAnswer) -> SteppedBack {
     let answer = read.answer;
     let input = read.input;
     let former = read.former;
+    match answer {
+        Answer::Event { event, used: _ } => back::step_back(board, event, input, former),
+        Answer::More => refuse(board),
+        Answer::Finish { used: _ } => refuse(board),
+        Answer::Refused(_) => refuse(board),
+    }
+}
+
+fn refuse(board: Board) -> SteppedBack {
+    SteppedBack {
+        answer: BackAnswer::Refused(Refusal::NotLast),
+        board,
+    }
+}
+
+// The board that a step back gave, which is to be that of a reader.
+fn compared(stepped: SteppedBack, reader: Reader) -> Board {
+    let answer = stepped.answer;
+    let board = stepped.board;
+    if let BackAnswer::Refused(_) = answer {
+        say(b"a step back is refused\n");
+    }
+    if !alike::same_board(board, back::board_of(reader)) {
+        say(b"another board\n");
+    }
+    board
+}
+
+fn print_event(read: ReadAnswer) {
+    let answer = read.answer;
+    let input = read.input;
+    print(texts::told(answer, input));
+}
+
+// One step back over the event of the call at a spot.
+fn one_back(board: Board, spot: Spot, body: &[u8]) -> Board {
     let reader = spot.reader;
-    let Answer::Event { event, used: _ } = answer else {
-        return board;
-    };
-    print_line(event, input);
-    let stepped = back::step_back(board, event, input, former);
-    let told = stepped.answer;
-    let before = stepped.board;
-    if let BackAnswer::Refused(_) = told {
-        io::write_all(STDOUT_FILENO, b"a step back is refused\n");
+    let read = read_at(spot, body);
+    print_event(read);
+    compared(undone(board, read), reader)
+}
+
+// The board before so many events.
+fn back_over(version: Version, body: &[u8], n: usize, last: Board) -> Board {
+    let mut board = last;
+    for k in 0..n {
+        let left = cases::difference(cases::difference(n, k), 1);
+        board = one_back(board, after(version, body, left), body);
     }
-    if !same_board(before, back::board_of(reader)) {
-        io::write_all(STDOUT_FILENO, b"another board\n");
-    }
-    before
+    board
 }
 
 fn walk(version: Version, body: &[u8]) {
-    let mut n = count_events(version, body);
-    let last = after(version, body, n);
+    let last = after(version, body, 100000);
     let reader = last.reader;
-    let mut board = back::board_of(reader);
-    while 0 < n {
-        n -= 1;
-        let spot = after(version, body, n);
-        board = one_back(board, spot, body);
+    let first = back_over(version, body, last.events, back::board_of(reader));
+    if alike::same_board(first, back::board_of(Reader::empty(version))) {
+        say(b"empty\n");
     }
-    if same_board(board, back::board_of(Reader::empty(version))) {
-        io::write_all(STDOUT_FILENO, b"empty\n");
-    }
-}
-
-fn number(b: u8) -> i32 {
-    b as i32
 }
 
 fn run_case(input: &[u8]) {
-    if input.len() == 0 {
-        return;
-    }
-    let VersionOf::Is(version) = kinds::version_of(number(input[0])) else {
+    let VersionOf::Is(version) = kinds::version_of(cases::first(input)) else {
         return;
     };
-    walk(version, &input[1..]);
-}
-
-fn run(s: &[u8]) {
-    let mut at: usize = 0;
-    let mut turns: usize = 0;
-    while turns < s.len() {
-        turns += 1;
-        let PartRead::Got { part, next } = cases::case_at(s, at, 2) else {
-            return;
-        };
-        run_case(packer::show(s, part));
-        at = next;
-    }
+    walk(version, cases::window(input, 1, input.len()));
 }
 
 fn main() {
     let mut buf = io::large_buffer();
     let n = io::read_full(0, &mut buf);
-    run(&buf[..n]);
+    for k in 0..cases::count(&buf[..n], 2) {
+        run_case(cases::nth(&buf[..n], 2, k));
+    }
 }

@@ -4,17 +4,8 @@ use borrow.Author.Needs.{needs}
 use Rattle.lookup_vectors.proofs.read_body.Statement.{statement}
 use Rattle.lookup_vectors.proofs.read_body.Tie as tie
 
-abbrev Inv-loop : tie.InvT-loop
-Inv-loop body each reader₀ at₀ turns₀ reader at turns = turns ≤ 4000000
-
-abbrev μ-loop : tie.MeasureT-loop
-μ-loop body each reader₀ at₀ turns₀ reader at turns = 4000000 - turns
-
 pub read-body-spec : {M : Type 1} → statement M
 read-body-spec =
-    tie.close
-    (tie.spec Inv-loop μ-loop (λ c κs. search needs) (λ c. search needs) (λ c. search needs) (λ c. search needs) (λ c. search needs)
-    (λ c κs. search needs) (λ c κs. search needs) (λ c. search needs) (λ c. search needs) (λ c. search needs) (λ c. search needs)
-    (λ c. search needs) (λ c. search needs) (λ c. search needs) (λ c κs. search needs) (λ c. search needs) (λ c. search needs)
+    tie.close (tie.spec (λ body each spot₀ counter₀ spot counter. counter ≤ 4000000) (λ body each spot₀ counter₀ spot counter. 4000000 - counter)
     (λ c κs. search needs) (λ c. search needs) (λ c κs. search needs) (λ c. search needs) (λ c. search needs) (λ c. search needs)
     (λ c. search needs) (λ c. search needs))
