@@ -1,6 +1,8 @@
 // Reads bodies with the reader by value and prints what its lookups answer: the last line, then the board. Standard input holds inputs one
 // behind the other, each after its length in three bytes, the low one first: 00, or 01 for the board after each event too; a version
 // byte; a body.
+ghost use mathlib.Core.Path.{_≡_};
+ghost use lib.ListN.{length};
 use back::BoardTick;
 use kinds::Version;
 use kinds::VersionOf;
@@ -177,8 +179,15 @@ fn run_case(case: &[u8]) {
     run_input(cases::window(case, 1, case.len()), cases::first(case) == 1);
 }
 
+// Room for many inputs in one run.
+fn buffer() -> [u8; 1048576]
+    ensures { λ r. ⌜ 1048576 ≡ length r ⌝ }
+{
+    [0; 1048576]
+}
+
 fn main() {
-    let mut buf = io::large_buffer();
+    let mut buf = buffer();
     let n = io::read_full(0, &mut buf);
     for k in 0..cases::count(&buf[..n], 3) {
         run_case(cases::nth(&buf[..n], 3, k));
