@@ -1,9 +1,9 @@
--- Whether two readers or two boards are the same.
-use Prim.Native.Nat.{ℕ}
+-- Whether two readers or two boards are the same; readers made of bytes.
+use Prim.Native.Nat.{ℕ, _+_, _*_, _-_}
 use mathlib.Core.Bool.{Bool, true, false, cond, not, _&&_}
 use mathlib.Core.List.{List}
-use lib.ListN.{getD}
-use lib.Dec.{eqb}
+use lib.ListN.{getD, length, set}
+use lib.Dec.{eqb, ltb}
 use lib.IntN.{ℤ, pos}
 use Rattle.kinds.specs.Kinds.{kindNumber}
 use Rattle.kinds.specs.declared.Cid.{Cid}
@@ -12,7 +12,10 @@ use Rattle.kinds.specs.declared.Kind.{Kind}
 use Rattle.kinds.specs.declared.Kind.the-variants as kinds
 use Rattle.kinds.specs.declared.Version.{Version}
 use Rattle.kinds.specs.declared.Version.the-variants as versions
-use Rattle.state.specs.State.{sameInt, every}
+use Rattle.packer.specs.Parts.{part, shown}
+use Rattle.cases.specs.Cases.{numberOf}
+use Rattle.state.specs.State.{sameInt, every, entriesWith, withPlayer, noEntries}
+use Rattle.state.specs.declared.Reader.{Reader}
 use Rattle.state.specs.declared.Pending.{Pending}
 use Rattle.state.specs.declared.Pending.the-variants as pendings
 use Rattle.state.specs.declared.Scalars.{Scalars}
@@ -62,14 +65,17 @@ clientOf kinds.Drop = pos 0
 clientOf kinds.ConsoleCommand = pos 0
 clientOf kinds.Ex = pos 0
 
-abbrev pub sameKind : Kind → Kind → Bool
-sameKind a b = sameInt (kindNumber a) (kindNumber b) && sameInt (clientOf a) (clientOf b)
+-- the number of a pending kind, as a client that may be missing
+abbrev pub pendingNumber : Pending → Cid
+pendingNumber (pendings.Is k) = cids.Of (kindNumber k)
+pendingNumber pendings.NoKind = cids.NoCid
+
+abbrev pub pendingClient : Pending → ℤ
+pendingClient (pendings.Is k) = clientOf k
+pendingClient pendings.NoKind = pos 0
 
 abbrev pub samePending : Pending → Pending → Bool
-samePending (pendings.Is k) (pendings.Is l) = sameKind k l
-samePending (pendings.Is k) pendings.NoKind = false
-samePending pendings.NoKind (pendings.Is l) = false
-samePending pendings.NoKind pendings.NoKind = true
+samePending a b = sameCid (pendingNumber a) (pendingNumber b) && sameInt (pendingClient a) (pendingClient b)
 
 abbrev pub samePlaces : Scalars → Scalars → Bool
 samePlaces a b = sameInt (a .tick) (b .tick) && sameInt (a .largest) (b .largest)
@@ -89,3 +95,43 @@ sameScalars a b = samePlaces a b && (sameFlags a b && sameKinds a b)
 abbrev pub boardTick : BoardTick → Cid
 boardTick (ticks.In t) = cids.Of t
 boardTick ticks.NoTick = cids.NoCid
+
+-- ---- a reader made of bytes; a number is 100 less than its byte
+
+abbrev pub versionIn : ℕ → Version
+versionIn b = cond (eqb b 1) versions.V1 versions.V2
+
+abbrev pub pendingOf : ℕ → ℤ → Pending
+pendingOf b cid =
+    cond (eqb b 1) (pendings.Is (kinds.PlayerDiff cid))
+    (cond (eqb b 2) (pendings.Is (kinds.PlayerNew cid)) (cond (eqb b 3) (pendings.Is kinds.Ex) pendings.NoKind))
+
+abbrev pub scalarsIn : List ℕ → Scalars
+scalarsIn s =
+    record {
+      version = versionIn (getD s 0 0);
+      tick = numberOf (getD s 1 0);
+      inside = eqb (getD s 6 0) 1;
+      remembered = cids.NoCid;
+      largest = numberOf (getD s 2 0);
+      pending = pendingOf (getD s 3 0) (numberOf (getD s 4 0));
+      closed = eqb (getD s 5 0) 1;
+    }
+
+-- the player of a client below 128
+abbrev pub playerAt : Entries → ℕ → ℕ → ℤ → ℤ → Entries
+playerAt e c mark x y = cond (ltb c 128) (withPlayer e c mark x y) e
+
+-- the mark of its input, and one of the ten numbers
+abbrev pub numberAt : Entries → ℕ → ℕ → ℕ → ℤ → Entries
+numberAt e c mark k n =
+    cond (ltb c 128) (cond (ltb k 10) (entriesWith (e .marks) (e .xs) (e .ys) (set (e .held) c mark) (set (e .inputs) (10 * c + k) n)) e) e
+
+abbrev pub entriesIn : List ℕ → Entries
+entriesIn s =
+    numberAt (playerAt noEntries (getD s 0 0) (getD s 1 0) (numberOf (getD s 2 0)) (numberOf (getD s 3 0)))
+    (getD s 0 0) (getD s 4 0) (getD s 5 0) (numberOf (getD s 6 0))
+
+-- seven bytes of scalars, then the entries
+abbrev pub readerIn : List ℕ → Reader
+readerIn s = record { scalars = scalarsIn s; entries = entriesIn (shown s (part 7 (length s - 7))) }

@@ -1,9 +1,10 @@
-// Whether two readers or two boards are the same: test programs see by it that a call changes nothing.
+// States for test programs: whether two readers or two boards are the same, by which is seen that a call changes nothing; readers made of
+// the bytes of a case, where a number is 100 more than it stands for.
 ghost use mathlib.Core.Path.{_≡_};
 ghost use Prim.Native.Nat.{_≤_};
-ghost use lib.ListN.{length};
+ghost use lib.ListN.{length, getD};
 ghost use lib.Dec.{eqb};
-ghost use Rattle.state.specs.State.{sameInt, every};
+ghost use Rattle.state.specs.State.{sameInt, every, noEntries};
 ghost use Rattle.alike.specs.Alike.{
   sameMark,
   sameNumber,
@@ -12,13 +13,21 @@ ghost use Rattle.alike.specs.Alike.{
   isSecond,
   sameCid,
   clientOf,
-  sameKind,
+  pendingNumber,
+  pendingClient,
   samePending,
   samePlaces,
   sameFlags,
   sameKinds,
   sameScalars,
   boardTick,
+  versionIn,
+  pendingOf,
+  scalarsIn,
+  playerAt,
+  numberAt,
+  entriesIn,
+  readerIn,
 };
 ghost use mathlib.Core.Bool.{_&&_};
 use back::Board;
@@ -144,28 +153,32 @@ fn client_of(kind: Kind) -> i32
     }
 }
 
-fn same_kind(a: Kind, b: Kind) -> bool
-    ensures { λ r. ⌜ r ≡ sameKind a b ⌝ }
+// The pending kind's number, as a client that may be missing.
+fn pending_number(pending: Pending) -> Cid
+    ensures { λ r. ⌜ r ≡ pendingNumber pending ⌝ }
 {
-    good::both(
-        same_number(a.number(), b.number()),
-        same_number(client_of(a), client_of(b)),
-    )
+    match pending {
+        Pending::Is(kind) => Cid::Of(kind.number()),
+        Pending::NoKind => Cid::NoCid,
+    }
+}
+
+fn pending_client(pending: Pending) -> i32
+    ensures { λ r. ⌜ r ≡ pendingClient pending ⌝ }
+{
+    match pending {
+        Pending::Is(kind) => client_of(kind),
+        Pending::NoKind => 0,
+    }
 }
 
 fn same_pending(a: Pending, b: Pending) -> bool
     ensures { λ r. ⌜ r ≡ samePending a b ⌝ }
 {
-    match a {
-        Pending::Is(k) => match b {
-            Pending::Is(l) => same_kind(k, l),
-            Pending::NoKind => false,
-        },
-        Pending::NoKind => match b {
-            Pending::Is(_) => false,
-            Pending::NoKind => true,
-        },
-    }
+    good::both(
+        same_cid(pending_number(a), pending_number(b)),
+        same_number(pending_client(a), pending_client(b)),
+    )
 }
 
 fn same_places(a: Scalars, b: Scalars) -> bool
@@ -235,4 +248,106 @@ pub fn same_board(a: Board, b: Board) -> bool
     let e = a.entries;
     let f = b.entries;
     good::both(same_cid(tick_of(s), tick_of(t)), same_entries(e, f))
+}
+
+fn version_in(b: u8) -> Version
+    ensures { λ r. ⌜ r ≡ versionIn b ⌝ }
+{
+    if b == 1 {
+        return Version::V1;
+    }
+    Version::V2
+}
+
+// 1 a PlayerDiff, 2 a PlayerNew, 3 an extension, else none.
+fn pending_of(b: u8, cid: i32) -> Pending
+    ensures { λ r. ⌜ r ≡ pendingOf b cid ⌝ }
+{
+    if b == 1 {
+        return Pending::Is(Kind::PlayerDiff(cid));
+    }
+    if b == 2 {
+        return Pending::Is(Kind::PlayerNew(cid));
+    }
+    if b == 3 {
+        return Pending::Is(Kind::Ex);
+    }
+    Pending::NoKind
+}
+
+// A version, a tick, a largest client, a pending kind and its client, closed or not, inside a tick or not.
+fn scalars_in(s: &[u8]) -> Scalars
+    ensures { λ r. ⌜ r ≡ scalarsIn (now (s .entry)) ⌝ }
+{
+    Scalars {
+        version: version_in(cases::byte(s, 0)),
+        tick: cases::number(s, 1),
+        inside: same_mark(cases::byte(s, 6), 1),
+        remembered: Cid::NoCid,
+        largest: cases::number(s, 2),
+        pending: pending_of(cases::byte(s, 3), cases::number(s, 4)),
+        closed: same_mark(cases::byte(s, 5), 1),
+    }
+}
+
+fn no_entries() -> Entries
+    ensures { λ r. ⌜ r ≡ noEntries ⌝ }
+{
+    let reader = Reader::empty(Version::V1);
+    let entries = reader.entries;
+    entries
+}
+
+fn with_player(entries: Entries, c: usize, mark: u8, x: i32, y: i32) -> Entries
+    ensures { λ r. ⌜ r ≡ playerAt entries c mark x y ⌝ }
+{
+    if 128 <= c {
+        return entries;
+    }
+    let mut made = entries;
+    made.marks[c] = mark;
+    made.xs[c] = x;
+    made.ys[c] = y;
+    made
+}
+
+fn with_number(entries: Entries, c: usize, mark: u8, k: usize, n: i32) -> Entries
+    ensures { λ r. ⌜ r ≡ numberAt entries c mark k n ⌝ }
+{
+    if 128 <= c {
+        return entries;
+    }
+    if 10 <= k {
+        return entries;
+    }
+    let mut made = entries;
+    made.held[c] = mark;
+    made.inputs[10 * c + k] = n;
+    made
+}
+
+// A client, its player's mark, x and y, its input's mark, the place of one of the ten numbers, that number; nothing else is there.
+pub fn entries_in(s: &[u8]) -> Entries
+    ensures { λ r. ⌜ r ≡ entriesIn (now (s .entry)) ⌝ }
+{
+    let c = cases::size(cases::byte(s, 0));
+    let k = cases::size(cases::byte(s, 5));
+    let player = with_player(
+        no_entries(),
+        c,
+        cases::byte(s, 1),
+        cases::number(s, 2),
+        cases::number(s, 3),
+    );
+    with_number(player, c, cases::byte(s, 4), k, cases::number(s, 6))
+}
+
+// Scalars, then entries.
+pub fn reader_in(s: &[u8]) -> Reader
+    ensures { λ r. ⌜ r ≡ readerIn (now (s .entry)) ⌝ }
+{
+    Reader {
+        scalars: scalars_in(s),
+        entries: entries_in(cases::window(s, 7, s.len())),
+    }
 }

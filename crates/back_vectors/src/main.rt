@@ -3,7 +3,8 @@
 // mark of the input, its first and last number.
 // Standard input holds cases one behind the other, each after its length in a byte: the length of its name, the name, and the event's kind
 // (0 start, 1 end, 2 record, 3 new, 4 change, 5 old, 6 input with former numbers, 7 without), in a tick or not, the tick, client 5 there or
-// not, the event's numbers, of which the second of an input is the place of a number to change. A number is 100 more than it stands for.
+// not, the event's three numbers, of which the second of an input is the place of a number to change; where client 5 is not there, the
+// entries, as alike::entries_in takes them. A number is 100 more than it stands for.
 use back::BackAnswer;
 use back::Board;
 use back::BoardTick;
@@ -26,23 +27,8 @@ fn print(text: Text) {
 
 // ---- what a case holds
 
-fn size(b: u8) -> usize {
-    b as usize
-}
-
 fn signed(b: u8) -> i32 {
     b as i32
-}
-
-fn byte(s: &[u8], i: usize) -> u8 {
-    if s.len() <= i {
-        return 0;
-    }
-    s[i]
-}
-
-fn number(s: &[u8], i: usize) -> i32 {
-    num::wrapping_add(signed(byte(s, i)), -100)
 }
 
 fn event_of(kind: u8, a: i32, x: i32, y: i32) -> Event {
@@ -75,36 +61,46 @@ fn event_of(kind: u8, a: i32, x: i32, y: i32) -> Event {
 }
 
 fn event_in(s: &[u8]) -> Event {
-    event_of(byte(s, 0), number(s, 4), number(s, 5), number(s, 6))
+    event_of(
+        cases::byte(s, 0),
+        cases::number(s, 4),
+        cases::number(s, 5),
+        cases::number(s, 6),
+    )
 }
 
 fn tick_in(s: &[u8]) -> BoardTick {
-    if byte(s, 1) == 1 {
-        return BoardTick::In(number(s, 2));
+    if cases::byte(s, 1) == 1 {
+        return BoardTick::In(cases::number(s, 2));
     }
     BoardTick::NoTick
 }
 
 const TEN: [i32; 10] = [1, 2, 3, 4, 5, 6, 7, 8, 9, 10];
 
-// Client 5 is at 10, 20 and has the input 1 to 10; or nobody is there.
-fn entries_in(s: &[u8]) -> Entries {
+// Client 5 is at 10, 20 and has the input 1 to 10.
+fn five() -> Entries {
     let reader = Reader::empty(Version::V1);
     let mut entries = reader.entries;
-    if byte(s, 3) == 1 {
-        entries.marks[5] = 1;
-        entries.xs[5] = 10;
-        entries.ys[5] = 20;
-        entries.held[5] = 1;
-        inputs::put_ten_at(&mut entries.inputs, 5, TEN);
-    }
+    entries.marks[5] = 1;
+    entries.xs[5] = 10;
+    entries.ys[5] = 20;
+    entries.held[5] = 1;
+    inputs::put_ten_at(&mut entries.inputs, 5, TEN);
     entries
+}
+
+fn entries_in(s: &[u8]) -> Entries {
+    if cases::byte(s, 3) == 1 {
+        return five();
+    }
+    alike::entries_in(cases::window(s, 7, s.len()))
 }
 
 // The numbers of client 5's input, of which one may be another.
 fn ten_in(s: &[u8]) -> [i32; 10] {
     let mut ten = TEN;
-    let k = size(byte(s, 5));
+    let k = cases::size(cases::byte(s, 5));
     if k < 10 {
         ten[k] = 99;
     }
@@ -160,9 +156,8 @@ fn step_case(s: &[u8]) {
 }
 
 fn run_case(case: &[u8]) {
-    let end = cases::past(1, size(byte(case, 0)), case.len());
-    say(cases::window(case, 1, end));
-    step_case(cases::window(case, end, case.len()));
+    say(cases::name(case));
+    step_case(cases::behind_name(case));
 }
 
 fn main() {

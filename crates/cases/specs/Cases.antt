@@ -1,9 +1,13 @@
 -- The inputs of a test program: one behind the other, each after its length in one to three bytes, the low one first.
-use Prim.Native.Nat.{ℕ, zero, suc, _+_, _*_}
+use Prim.Native.Nat.{ℕ, zero, suc, _+_, _*_, min}
 use mathlib.Core.Bool.{cond}
 use mathlib.Core.List.{List}
 use lib.ListN.{length, getD}
-use lib.Dec.{leb}
+use lib.Dec.{eqb, leb}
+use lib.IntN.{ℤ, negsuc, _+ℤ_}
+use mir.Syntax.{w32}
+use mir.Val.{toZ}
+use Rattle.num.specs.Wrap.{wrap32}
 use Rattle.packer.specs.Parts.{part, readRaw}
 use Rattle.packer.specs.declared.Part.{Part}
 use Rattle.packer.specs.declared.PartRead.{PartRead}
@@ -45,3 +49,13 @@ placeOf (suc k) s width = nextOf (placeOf k s width) (caseAt s (placeOf k s widt
 unfoldable pub countTo : ℕ → List ℕ → ℕ → ℕ
 countTo zero s width = 0
 countTo (suc k) s width = countTo k s width + wholeCase (caseAt s (placeOf k s width) width)
+
+-- ---- what an input holds
+
+-- the end of a name behind its length in a byte
+abbrev pub nameEnd : List ℕ → ℕ
+nameEnd s = min (1 + getD s 0 0) (length s)
+
+-- the number that is 100 less than a byte; 255 stands for the least
+abbrev pub numberOf : ℕ → ℤ
+numberOf b = cond (eqb b 255) (negsuc 2147483647) (wrap32 (toZ w32 b +ℤ negsuc 99))

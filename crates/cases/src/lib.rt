@@ -5,11 +5,11 @@ ghost use lib.ListN.{length, getD};
 ghost use mir.Syntax.{w32};
 ghost use mir.Val.{toZ};
 ghost use Rattle.packer.specs.Parts.{part, shown};
-ghost use Rattle.cases.specs.Cases.{digitAt, caseAt, nextOf, partOf, wholeCase, placeOf, countTo};
+ghost use Rattle.cases.specs.Cases.{digitAt, caseAt, nextOf, partOf, wholeCase, placeOf, countTo, nameEnd, numberOf};
 use packer::Part;
 use packer::PartRead;
 
-fn size(b: u8) -> usize
+pub fn size(b: u8) -> usize
     ensures { λ r. ⌜ (r ≡ b) × (r < 256) ⌝ }
 {
     b as usize
@@ -119,20 +119,21 @@ fn word(b: u8) -> u32
     b as u32
 }
 
-fn first_byte(s: &[u8]) -> u32
-    ensures { λ r. ⌜ r ≡ getD (now (s .entry)) 0 0 ⌝ }
+// The byte at a place; 0 if there is none.
+pub fn byte(s: &[u8], i: usize) -> u8
+    ensures { λ r. ⌜ r ≡ getD (now (s .entry)) i 0 ⌝ }
 {
-    if s.len() == 0 {
+    if s.len() <= i {
         return 0;
     }
-    word(s[0])
+    s[i]
 }
 
 // The first byte as a number; 0 if there is none.
 pub fn first(s: &[u8]) -> i32
     ensures { λ r. ⌜ r ≡ toZ w32 (getD (now (s .entry)) 0 0) ⌝ }
 {
-    num::signed(first_byte(s))
+    num::signed(word(byte(s, 0)))
 }
 
 pub fn difference(a: usize, b: usize) -> usize
@@ -155,6 +156,49 @@ pub fn window(s: &[u8], at: usize, end: usize) -> &[u8]
             len: difference(end, at),
         },
     )
+}
+
+// A name behind its length in a byte.
+pub fn name(s: &[u8]) -> &[u8]
+    ensures { λ r. ⌜ now r ≡ shown (now (s .entry)) (part 1 (nameEnd (now (s .entry)) - 1)) ⌝ }
+{
+    window(s, 1, name_end(s))
+}
+
+// What stands behind a name.
+pub fn behind_name(s: &[u8]) -> &[u8]
+    ensures { λ r. ⌜ now r ≡ shown (now (s .entry)) (part (nameEnd (now (s .entry))) (length (now (s .entry)) - nameEnd (now (s .entry)))) ⌝ }
+{
+    window(s, name_end(s), s.len())
+}
+
+fn name_end(s: &[u8]) -> usize
+    ensures { λ r. ⌜ r ≡ nameEnd (now (s .entry)) ⌝ }
+{
+    past(1, size(byte(s, 0)), s.len())
+}
+
+// A number of a byte, 100 more than it; 255 stands for the least.
+pub fn number(s: &[u8], i: usize) -> i32
+    ensures { λ r. ⌜ r ≡ numberOf (getD (now (s .entry)) i 0) ⌝ }
+{
+    small(byte(s, i))
+}
+
+fn small(b: u8) -> i32
+    ensures { λ r. ⌜ r ≡ numberOf b ⌝ }
+{
+    if b == 255 {
+        return -2147483648;
+    }
+    num::wrapping_add(num::signed(word(b)), -100)
+}
+
+// Room for many inputs in one run.
+pub fn buffer() -> [u8; 1048576]
+    ensures { λ r. ⌜ 1048576 ≡ length r ⌝ }
+{
+    [0; 1048576]
 }
 
 // The place past the bytes that a call used, at most the end.

@@ -5,7 +5,6 @@ use kinds::Version;
 use libc::STDOUT_FILENO;
 use reader::WantedAnswer;
 use state::Reader;
-use state::Scalars;
 use texts::Text;
 
 fn print(text: Text) {
@@ -21,13 +20,6 @@ fn flag(b: bool) -> i32 {
     if b { 1 } else { 0 }
 }
 
-fn is_second(version: Version) -> bool {
-    match version {
-        Version::V1 => false,
-        Version::V2 => true,
-    }
-}
-
 fn version_number(version: Version) -> i32 {
     match version {
         Version::V1 => 1,
@@ -37,27 +29,17 @@ fn version_number(version: Version) -> i32 {
 
 // The reader at tick -1, which is refused 17.
 fn bad(reader: Reader) -> Reader {
-    let s = reader.scalars;
+    let mut scalars = reader.scalars;
     let entries = reader.entries;
-    let version = s.version;
-    let remembered = s.remembered;
-    let pending = s.pending;
-    let scalars = Scalars {
-        version,
-        tick: -1,
-        inside: s.inside,
-        remembered,
-        largest: s.largest,
-        pending,
-        closed: s.closed,
-    };
+    scalars.tick = -1;
     Reader { scalars, entries }
 }
 
-fn print_reader(reader: Reader) {
-    let s = reader.scalars;
-    let version = s.version;
-    print(texts::plain(b"wanted", &[version_number(version), s.tick, s.largest]));
+fn print_reader(version: i32, tick: i32, largest: i32) {
+    print(texts::plain(b"wanted", &[version, tick, largest]));
+}
+
+fn print_good(reader: Reader) {
     let fine = flag(reader::is_good(reader));
     let spoilt = flag(reader::is_good(bad(reader)));
     print(texts::plain(b"good", &[fine, spoilt]));
@@ -70,6 +52,15 @@ fn print_counts(second: bool, body: &[u8]) {
     print(texts::plain(b"events", &[each, lent, many]));
 }
 
+fn run_reader(reader: Reader, body: &[u8]) {
+    let s = reader.scalars;
+    let v = s.version;
+    let version = version_number(v);
+    print_reader(version, s.tick, s.largest);
+    print_good(reader);
+    print_counts(version == 2, body);
+}
+
 fn run_case(input: &[u8]) {
     if input.len() == 0 {
         return;
@@ -78,12 +69,7 @@ fn run_case(input: &[u8]) {
     let answer = wanted.answer;
     let reader = wanted.reader;
     match answer {
-        WantedAnswer::Is => {
-            print_reader(reader);
-            let s = reader.scalars;
-            let version = s.version;
-            print_counts(is_second(version), cases::window(input, 1, input.len()));
-        }
+        WantedAnswer::Is => run_reader(reader, cases::window(input, 1, input.len())),
         WantedAnswer::Refused(why) => print(texts::refused(why)),
     }
 }

@@ -1,8 +1,8 @@
-// The reading call on lent memory and the call of many events, run. First each cause of refusal 17, a closed reader (18) and an open one:
-// by the lent call, by a call of many events and by one that has no room for an event, with what became of the memory lent. Then bodies
-// by the lent call, as lines of the replay program; standard input holds them as that of reader_vectors does.
-use kinds::Cid;
-use kinds::Kind;
+// The reading call on lent memory and the call of many events, run. Standard input holds cases one behind the other, each after its length
+// in two bytes, the low one first.
+//   1 or 2, or another byte that is no version; then a body, read by the lent call and printed as lines of the replay program
+//   0: the length of a name, the name, a reader as alike::reader_in takes it: by the lent call, by a call of many events and by one that
+//      has no room for an event, with what became of the memory lent
 use kinds::Version;
 use kinds::VersionOf;
 use libc::STDOUT_FILENO;
@@ -11,9 +11,7 @@ use many::ManyAnswer;
 use many::Stop;
 use state::Answer;
 use state::Entries;
-use state::Pending;
 use state::Reader;
-use state::Scalars;
 use texts::Text;
 use texts::Used;
 
@@ -26,50 +24,6 @@ fn print(text: &[u8]) {
 fn print_text(text: Text) {
     let bytes = text.bytes;
     print(cases::window(&bytes, 0, text.len));
-}
-
-// ---- readers made by hand
-
-fn scalars_of(tick: i32, largest: i32, pending: Pending, closed: bool) -> Scalars {
-    Scalars {
-        version: Version::V1,
-        tick,
-        inside: true,
-        remembered: Cid::NoCid,
-        largest,
-        pending,
-        closed,
-    }
-}
-
-fn no_entries() -> Entries {
-    let reader = Reader::empty(Version::V1);
-    let entries = reader.entries;
-    entries
-}
-
-// The player of client 5 with a mark, and with x.
-fn player_entry(mark: u8, x: i32) -> Entries {
-    let mut entries = no_entries();
-    entries.marks[5] = mark;
-    entries.xs[5] = x;
-    entries
-}
-
-// The input of client 5 with a mark, and with its fourth number.
-fn input_entry(mark: u8, number: i32) -> Entries {
-    let mut entries = no_entries();
-    entries.held[5] = mark;
-    entries.inputs[53] = number;
-    entries
-}
-
-fn made(scalars: Scalars, entries: Entries) -> Reader {
-    Reader { scalars, entries }
-}
-
-fn good_scalars() -> Scalars {
-    scalars_of(0, -1, Pending::NoKind, false)
 }
 
 fn all_are(xs: &[i32], n: i32) -> bool {
@@ -88,7 +42,9 @@ fn all_are(xs: &[i32], n: i32) -> bool {
 // PlayerNew of client 5 at 7, 8; Finish.
 const BODY: [u8; 5] = [66, 5, 7, 8, 64];
 
-fn print_same(same: bool) {
+// What a call is, and what became of the memory lent to it.
+fn report(name: &[u8], same: bool) {
+    print(name);
     if same {
         print(b", memory as it was: ");
         return;
@@ -137,23 +93,34 @@ fn lent_call(reader: Reader, body: &[u8]) -> LentRead {
     };
     LentRead {
         answer,
-        reader: made(left, now),
+        reader: Reader {
+            scalars: left,
+            entries: now,
+        },
         input,
         former,
     }
+}
+
+fn tell(read: LentRead) {
+    let answer = read.answer;
+    let input = read.input;
+    print_text(texts::told(answer, input));
+}
+
+// Whether the ten numbers and the former ten are as they were lent.
+fn tens_kept(read: LentRead) -> bool {
+    let input = read.input;
+    let former = read.former;
+    all_are(&input, 1) & all_are(&former, 2)
 }
 
 fn by_lent(reader: Reader) {
     let body = BODY;
     let read = lent_call(reader, &body);
     let left = read.reader;
-    let input = read.input;
-    let former = read.former;
-    let answer = read.answer;
-    print(b"lent");
-    let tens = all_are(&input, 1) & all_are(&former, 2);
-    print_same(alike::same_reader(left, reader) & tens);
-    print_text(texts::told(answer, input));
+    report(b"lent", alike::same_reader(left, reader) & tens_kept(read));
+    tell(read);
 }
 
 fn print_stop(stop: Stop) {
@@ -165,83 +132,45 @@ fn print_stop(stop: Stop) {
     }
 }
 
-// What became of the memory lent to a call of many events.
-fn print_many(many: ManyAnswer, reader: Reader, lent: bool) {
+fn print_many(name: &[u8], many: ManyAnswer, reader: Reader, lent: bool) {
     let left = many.reader;
     let stop = many.stop;
-    print_same(alike::same_reader(left, reader) & lent);
+    report(name, alike::same_reader(left, reader) & lent);
     print_stop(stop);
 }
 
-// Room for four events.
-fn by_many(reader: Reader) {
+// A call of many events with these rows, which are 3 all over.
+fn by_many(name: &[u8], reader: Reader, rows: &mut [i32]) {
     let body = BODY;
-    let mut rows = [3i32; 32];
     let mut tens = [4i32; 80];
-    let many = many::read_many(reader, &body, true, &mut rows, &mut tens);
-    print(b"many");
-    print_many(many, reader, all_are(&rows, 3) & all_are(&tens, 4));
+    let many = many::read_many(reader, &body, true, rows, &mut tens);
+    print_many(name, many, reader, all_are(rows, 3) & all_are(&tens, 4));
+}
+
+// Room for four events.
+fn with_room(reader: Reader) {
+    let mut rows = [3i32; 32];
+    by_many(b"many", reader, &mut rows);
 }
 
 // Room for no row.
 fn without_room(reader: Reader) {
-    let body = BODY;
     let mut row = [3i32; 7];
-    let mut tens = [4i32; 80];
-    let none = many::read_many(reader, &body, true, &mut row, &mut tens);
-    let lent = all_are(&row, 3) & all_are(&tens, 4);
-    print(b"no room");
-    print_many(none, reader, lent);
+    by_many(b"no room", reader, &mut row);
 }
 
-fn each_call(scalars: Scalars, entries: Entries) {
-    let reader = made(scalars, entries);
+fn each_call(reader: Reader) {
     by_lent(reader);
-    by_many(reader);
+    with_room(reader);
     without_room(reader);
 }
 
-fn bad_scalars() {
-    print(b"a tick below 0\n");
-    each_call(scalars_of(-1, -1, Pending::NoKind, false), no_entries());
-    print(b"a largest client below -1\n");
-    each_call(scalars_of(0, -2, Pending::NoKind, false), no_entries());
-    print(b"a pending PlayerDiff of client -1\n");
-    let diff = Pending::Is(Kind::PlayerDiff(-1));
-    each_call(scalars_of(0, -1, diff, false), no_entries());
-    print(b"a pending extension in version 1\n");
-    let extension = Pending::Is(Kind::Ex);
-    each_call(scalars_of(0, -1, extension, false), no_entries());
-}
-
-fn bad_entries() {
-    print(b"a player's mark of 2\n");
-    each_call(good_scalars(), player_entry(2, 0));
-    print(b"an input's mark of 2\n");
-    each_call(good_scalars(), input_entry(2, 0));
-    print(b"an absent player with a number\n");
-    each_call(good_scalars(), player_entry(0, 9));
-    print(b"an absent input with a number\n");
-    each_call(good_scalars(), input_entry(0, 9));
-}
-
-fn good_states() {
-    print(b"a closed reader\n");
-    each_call(scalars_of(0, -1, Pending::NoKind, true), no_entries());
-    print(b"a closed reader with a tick below 0\n");
-    each_call(scalars_of(-1, -1, Pending::NoKind, true), no_entries());
-    print(b"an open reader\n");
-    each_call(good_scalars(), no_entries());
+fn reader_case(case: &[u8]) {
+    print(cases::name(case));
+    each_call(alike::reader_in(cases::behind_name(case)));
 }
 
 // ---- bodies
-
-fn run_case(input: &[u8]) {
-    match kinds::version_of(cases::first(input)) {
-        VersionOf::Is(version) => read_body(version, cases::window(input, 1, input.len())),
-        VersionOf::Refused(r) => print_text(texts::refused(r)),
-    }
-}
 
 // A reader and its place in the body; or that it is read.
 struct Spot {
@@ -250,26 +179,26 @@ struct Spot {
     over: bool,
 }
 
+// Past a call.
+fn past(spot: Spot, read: LentRead, len: usize) -> Spot {
+    let mut next = spot;
+    let answer = read.answer;
+    let left = read.reader;
+    next.reader = left;
+    let Used::Bytes(used) = texts::used_in(answer) else {
+        next.over = true;
+        return next;
+    };
+    next.at = cases::past(spot.at, used, len);
+    next
+}
+
 // A call with a window to the body's end, which is the last.
 fn one_call(spot: Spot, body: &[u8]) -> Spot {
     let reader = spot.reader;
     let read = lent_call(reader, cases::window(body, spot.at, body.len()));
-    let answer = read.answer;
-    let input = read.input;
-    let left = read.reader;
-    print_text(texts::told(answer, input));
-    match texts::used_in(answer) {
-        Used::Bytes(used) => Spot {
-            reader: left,
-            at: cases::past(spot.at, used, body.len()),
-            over: false,
-        },
-        Used::NoEvent => Spot {
-            reader: left,
-            at: spot.at,
-            over: true,
-        },
-    }
+    tell(read);
+    past(spot, read, body.len())
 }
 
 fn read_body(version: Version, body: &[u8]) {
@@ -287,10 +216,22 @@ fn read_body(version: Version, body: &[u8]) {
     }
 }
 
+fn run_input(version: i32, rest: &[u8]) {
+    if version == 0 {
+        reader_case(rest);
+        return;
+    }
+    match kinds::version_of(version) {
+        VersionOf::Is(version) => read_body(version, rest),
+        VersionOf::Refused(r) => print_text(texts::refused(r)),
+    }
+}
+
+fn run_case(case: &[u8]) {
+    run_input(cases::first(case), cases::window(case, 1, case.len()));
+}
+
 fn main() {
-    bad_scalars();
-    bad_entries();
-    good_states();
     let mut buf = io::large_buffer();
     let n = io::read_full(0, &mut buf);
     for k in 0..cases::count(&buf[..n], 2) {

@@ -1,8 +1,6 @@
-// Reads bodies with the reader by value and prints what its lookups answer: the last line, then the board. Standard input holds inputs one
-// behind the other, each after its length in three bytes, the low one first: 00, or 01 for the board after each event too; a version
-// byte; a body.
-ghost use mathlib.Core.Path.{_≡_};
-ghost use lib.ListN.{length};
+// Reads bodies with the reader by value and prints what lookups answer: the last line, then the board by the lookups of the reader. Standard
+// input holds inputs one behind the other, each after its length in three bytes, the low one first: 00, or 01 for the board after each event
+// too, by the lookups of a board; a version byte; a body.
 use back::BoardTick;
 use kinds::Version;
 use kinds::VersionOf;
@@ -10,6 +8,7 @@ use libc::STDOUT_FILENO;
 use lookups::InputOf;
 use lookups::Pos;
 use reader::ReadAnswer;
+use state::Event;
 use state::Reader;
 use texts::Text;
 use texts::Used;
@@ -18,9 +17,14 @@ fn say(text: &[u8]) {
     io::write_all(STDOUT_FILENO, text);
 }
 
-fn print(text: Text) {
+// A line from a place on.
+fn print_from(text: Text, at: usize) {
     let bytes = text.bytes;
-    say(cases::window(&bytes, 0, text.len));
+    say(cases::window(&bytes, at, text.len));
+}
+
+fn print(text: Text) {
+    print_from(text, 0);
 }
 
 // The started tick or none.
@@ -38,33 +42,43 @@ fn print_pos(cid: i32, pos: Pos) {
     print(texts::plain(b"pos", &[cid, x, y]));
 }
 
+// The line of an input event with another word in front.
 fn print_inp(cid: i32, found: InputOf) {
     if !found.there {
         return;
     }
-    let n = found.input;
-    print(texts::plain(
-        b"inp",
-        &[
-            cid,
-            n[0],
-            n[1],
-            n[2],
-            n[3],
-            n[4],
-            n[5],
-            n[6],
-            n[7],
-            n[8],
-            n[9],
-        ],
-    ));
+    let numbers = found.input;
+    say(b"inp");
+    print_from(texts::line(Event::Input { cid, former: false }, numbers), 5);
 }
 
 // What a client has.
-fn print_client(reader: Reader, cid: i32) {
-    print_pos(cid, reader::player_pos(reader, cid));
-    print_inp(cid, reader::input(reader, cid));
+struct Found {
+    pos: Pos,
+    input: InputOf,
+}
+
+// By the lookups of the reader, or by those of its board.
+fn look(reader: Reader, cid: i32, on_board: bool) -> Found {
+    if on_board {
+        let board = back::board_of(reader);
+        return Found {
+            pos: back::player_pos(board, cid),
+            input: back::input(board, cid),
+        };
+    }
+    Found {
+        pos: reader::player_pos(reader, cid),
+        input: reader::input(reader, cid),
+    }
+}
+
+fn print_client(reader: Reader, cid: i32, on_board: bool) {
+    let found = look(reader, cid, on_board);
+    let pos = found.pos;
+    let input = found.input;
+    print_pos(cid, pos);
+    print_inp(cid, input);
 }
 
 // A number that fits an i32, else -1.
@@ -88,21 +102,25 @@ fn print_cids(end: i64) {
 }
 
 // Clients 0 to 128.
-fn print_clients(reader: Reader) {
+fn print_clients(reader: Reader, on_board: bool) {
     for c in 0..129u32 {
-        print_client(reader, num::signed(c));
+        print_client(reader, num::signed(c), on_board);
     }
 }
 
-// Every lookup; of the clients outside 0 to 127, which have nothing, those at the ends.
-fn print_board(reader: Reader) {
+fn tick_of(reader: Reader) -> BoardTick {
     let board = back::board_of(reader);
     let tick = board.tick;
-    print_tick(tick);
-    print_client(reader, -2147483648);
-    print_client(reader, -1);
-    print_clients(reader);
-    print_client(reader, 2147483647);
+    tick
+}
+
+// Every lookup; of the clients outside 0 to 127, which have nothing, those at the ends.
+fn print_board(reader: Reader, on_board: bool) {
+    print_tick(tick_of(reader));
+    print_client(reader, -2147483648, on_board);
+    print_client(reader, -1, on_board);
+    print_clients(reader, on_board);
+    print_client(reader, 2147483647, on_board);
     print_cids(reader::cids(reader));
 }
 
@@ -113,53 +131,59 @@ struct Spot {
     over: bool,
 }
 
-fn print_end(read: ReadAnswer) {
+// After an event the board's lookups, if they are asked for; at the end the last line and the reader's.
+fn tell(read: ReadAnswer, each: bool) {
     let answer = read.answer;
     let input = read.input;
     let reader = read.reader;
-    print(texts::told(answer, input));
-    print_board(reader);
-}
-
-fn print_each(reader: Reader, each: bool) {
+    if let Used::NoEvent = texts::used_in(answer) {
+        print(texts::told(answer, input));
+        print_board(reader, false);
+        return;
+    }
     if each {
-        print_board(reader);
+        print_board(reader, true);
     }
 }
 
-// A reading call at a spot; the window reaches to the body's end and is the last.
-fn read_at(spot: Spot, body: &[u8]) -> ReadAnswer {
-    let reader = spot.reader;
-    reader::read(reader, cases::window(body, spot.at, body.len()), true)
+// The spot past a call.
+fn past(at: usize, read: ReadAnswer, len: usize) -> Spot {
+    let answer = read.answer;
+    let reader = read.reader;
+    match texts::used_in(answer) {
+        Used::Bytes(used) => Spot {
+            reader,
+            at: cases::past(at, used, len),
+            over: false,
+        },
+        Used::NoEvent => Spot {
+            reader,
+            at,
+            over: true,
+        },
+    }
 }
 
+// A call whose window reaches to the body's end and is the last.
 fn call(spot: Spot, body: &[u8], each: bool) -> Spot {
-    let read = read_at(spot, body);
-    let answer = read.answer;
-    let next = read.reader;
-    let Used::Bytes(used) = texts::used_in(answer) else {
-        print_end(read);
-        return Spot {
-            reader: next,
-            at: spot.at,
-            over: true,
-        };
-    };
-    print_each(next, each);
+    let reader = spot.reader;
+    let at = spot.at;
+    let read = reader::read(reader, cases::window(body, at, body.len()), true);
+    tell(read, each);
+    past(at, read, body.len())
+}
+
+fn first_spot(version: Version) -> Spot {
     Spot {
-        reader: next,
-        at: cases::past(spot.at, used, body.len()),
+        reader: Reader::empty(version),
+        at: 0,
         over: false,
     }
 }
 
 // A body read whole. A call uses a byte or answers an event of a pending kind, of which there are at most two for a byte.
 fn read_body(version: Version, body: &[u8], each: bool) {
-    let mut spot = Spot {
-        reader: Reader::empty(version),
-        at: 0,
-        over: false,
-    };
+    let mut spot = first_spot(version);
     for _ in 0..4000000usize {
         spot = call(spot, body, each);
         if spot.over {
@@ -179,15 +203,8 @@ fn run_case(case: &[u8]) {
     run_input(cases::window(case, 1, case.len()), cases::first(case) == 1);
 }
 
-// Room for many inputs in one run.
-fn buffer() -> [u8; 1048576]
-    ensures { λ r. ⌜ 1048576 ≡ length r ⌝ }
-{
-    [0; 1048576]
-}
-
 fn main() {
-    let mut buf = buffer();
+    let mut buf = cases::buffer();
     let n = io::read_full(0, &mut buf);
     for k in 0..cases::count(&buf[..n], 3) {
         run_case(cases::nth(&buf[..n], 3, k));

@@ -1,16 +1,15 @@
 // Runs the record call over the cases on standard input and prints a line for each, in the form of the oracle's `records`: the bytes
-// used, the record's name and its fields; `runs out`; or `refused` with the number and the kind. A case is a version, a length and so
-// many bytes. Each is called with the flag off and on: where the bytes run out the second call is to be refused 3, elsewhere to say the
+// used, the record's name and its fields; `runs out`; or `refused` with the number and the kind. A case is a length in a byte, a version
+// and bytes. Each is called with the flag off and on: where the bytes run out the second call is to be refused 3, elsewhere to say the
 // same.
 ghost use Prim.Native.Nat.{_<_};
 use extensions::Extension;
 use item::Record;
 use item::Tag;
-use kinds::Kind;
+use kinds::Cid;
 use kinds::Version;
 use libc::STDOUT_FILENO;
 use packer::Part;
-use packer::PartRead;
 use records::CallAnswer;
 use records::RecordCall;
 use refusal::Refusal;
@@ -52,23 +51,18 @@ const FIELDS: [u8; 32] = [
     20,
 ];
 
-fn kind_row(kind: Kind) -> usize
+// The rows of the kinds are in the order of their numbers, downwards from that of PlayerDiff.
+fn kind_row(number: i32) -> usize
     ensures { λ r. ⌜ r < 32 ⌝ }
 {
-    match kind {
-        Kind::PlayerDiff(_) => 20,
-        Kind::Finish => 21,
-        Kind::TickSkip => 22,
-        Kind::PlayerNew(_) => 23,
-        Kind::PlayerOld(_) => 24,
-        Kind::InputDiff => 25,
-        Kind::InputNew => 26,
-        Kind::Message => 27,
-        Kind::Join => 28,
-        Kind::Drop => 29,
-        Kind::ConsoleCommand => 30,
-        Kind::Ex => 31,
+    if 0 <= number {
+        return 20;
     }
+    let k = num::bits(!number);
+    if k < 11 {
+        return 21 + k as usize;
+    }
+    31
 }
 
 fn extension_row(which: Extension) -> usize
@@ -102,7 +96,7 @@ fn row_of(tag: Tag) -> usize
     ensures { λ r. ⌜ r < 32 ⌝ }
 {
     match tag {
-        Tag::Plain(kind) => kind_row(kind),
+        Tag::Plain(kind) => kind_row(kind.number()),
         Tag::Named(which) => extension_row(which),
         Tag::Other => 31,
     }
@@ -190,10 +184,8 @@ fn print_bytes(b: &[u8]) {
 }
 
 fn print_ten(input: [i32; 10]) {
-    let mut k: usize = 0;
-    while k < 10 {
+    for k in 0..10usize {
         print_signed(input[k]);
-        k += 1;
     }
 }
 
@@ -211,21 +203,9 @@ fn print_args(w: &[u8], count: usize, parts: [Part; 16]) {
     }
 }
 
-// The client of a player kind; nothing of another.
-fn print_client(kind: Kind) {
-    match kind {
-        Kind::PlayerDiff(cid) => print_signed(cid),
-        Kind::PlayerNew(cid) => print_signed(cid),
-        Kind::PlayerOld(cid) => print_signed(cid),
-        Kind::Finish => {}
-        Kind::TickSkip => {}
-        Kind::InputDiff => {}
-        Kind::InputNew => {}
-        Kind::Message => {}
-        Kind::Join => {}
-        Kind::Drop => {}
-        Kind::ConsoleCommand => {}
-        Kind::Ex => {}
+fn print_client(cid: Cid) {
+    if let Cid::Of(c) = cid {
+        print_signed(c);
     }
 }
 
@@ -283,8 +263,8 @@ fn print_record(w: &[u8], used: usize, value: Record) {
     io::print_decimal(STDOUT_FILENO, used as u64);
     say(b" ");
     print_name(row);
-    if let Tag::Plain(kind) = tag {
-        print_client(kind);
+    if has(fields, 1) {
+        print_client(item.cid());
     }
     print_numbers(w, fields, f);
     print_rest(w, fields, text, value);
@@ -309,32 +289,33 @@ fn print_call(w: &[u8], call: RecordCall) {
     say(b"\n");
 }
 
-// Whether the call with the flag on says what it should beside the one with the flag off.
-fn flag_agrees(off: CallAnswer, on: CallAnswer) -> bool {
-    match off {
-        CallAnswer::Got(a) => match on {
-            CallAnswer::Got(b) => a == b,
-            CallAnswer::More => false,
-            CallAnswer::Refused(_) => false,
-        },
-        CallAnswer::More => match on {
-            CallAnswer::Got(_) => false,
-            CallAnswer::More => false,
-            CallAnswer::Refused(r) => r.number() == 3,
-        },
-        CallAnswer::Refused(q) => match on {
-            CallAnswer::Got(_) => false,
-            CallAnswer::More => false,
-            CallAnswer::Refused(r) => q.number() == r.number(),
-        },
+// The number of a refusal; that of *more* is given; 0 of a record.
+fn number_of(answer: CallAnswer, more: u8) -> u8 {
+    match answer {
+        CallAnswer::Got(_) => 0,
+        CallAnswer::More => more,
+        CallAnswer::Refused(r) => r.number(),
     }
+}
+
+fn used_in(answer: CallAnswer) -> usize {
+    match answer {
+        CallAnswer::Got(used) => used,
+        CallAnswer::More => 0,
+        CallAnswer::Refused(_) => 0,
+    }
+}
+
+// Whether the call with the flag on says what it should beside the one with the flag off: 3 in the place of *more*, else the same.
+fn flag_agrees(off: CallAnswer, on: CallAnswer) -> bool {
+    (number_of(off, 3) == number_of(on, 255)) & (used_in(off) == used_in(on))
 }
 
 fn version_of(b: u8) -> Version {
     if b == 1 { Version::V1 } else { Version::V2 }
 }
 
-fn run_case(version: Version, w: &[u8]) {
+fn call_twice(version: Version, w: &[u8]) {
     let off = records::record_call(version, w, false);
     let on = records::record_call(version, w, true);
     let a = off.answer;
@@ -345,25 +326,17 @@ fn run_case(version: Version, w: &[u8]) {
     }
 }
 
-fn run(s: &[u8]) {
-    let mut at: usize = 0;
-    let mut turns: usize = 0;
-    while turns < s.len() {
-        turns += 1;
-        if s.len() <= at {
-            return;
-        }
-        let version = version_of(s[at]);
-        let PartRead::Got { part, next } = cases::case_at(s, at + 1, 1) else {
-            return;
-        };
-        run_case(version, packer::show(s, part));
-        at = next;
-    }
+fn run_case(case: &[u8]) {
+    call_twice(
+        version_of(cases::byte(case, 0)),
+        cases::window(case, 1, case.len()),
+    );
 }
 
 fn main() {
     let mut buf = io::large_buffer();
     let n = io::read_full(0, &mut buf);
-    run(&buf[..n]);
+    for k in 0..cases::count(&buf[..n], 1) {
+        run_case(cases::nth(&buf[..n], 1, k));
+    }
 }

@@ -1,4 +1,8 @@
-// Answers that no body gives: a line for each case, its name and the answer. The magic call; the versions; parts of a window.
+// Answers that no body gives: a line for each case, its name and the answer. Standard input holds cases one behind the other, each after its
+// length in a byte: what it is, the length of its name, the name, bytes.
+//   0: the magic call on these bytes
+//   1: a version: a number 100 less than the first byte (255: the least), and 256 times the second
+//   2: a part of four bytes: its place and its length, where 255 stands for 18446744073709551615
 use kinds::MagicRead;
 use kinds::Version;
 use kinds::VersionOf;
@@ -11,18 +15,12 @@ fn say(text: &[u8]) {
 }
 
 fn say_refused(why: Refusal) {
-    let text = texts::refused(why);
-    let bytes = text.bytes;
-    say(b" ");
-    say(cases::window(&bytes, 0, text.len));
+    say(b" refused ");
+    io::print_decimal(STDOUT_FILENO, why.number() as u64);
+    say(b"\n");
 }
 
-fn part(at: usize, len: usize) -> Part {
-    Part { at, len }
-}
-
-fn magic(name: &[u8], s: &[u8]) {
-    say(name);
+fn magic(s: &[u8]) {
     match ids::read_magic(s) {
         MagicRead::Used(n) => {
             if n == 16 {
@@ -33,75 +31,58 @@ fn magic(name: &[u8], s: &[u8]) {
     }
 }
 
-fn magics() {
-    let m = b"\x69\x9d\xb1\x7b\x8e\xfb\x34\xff\xb1\xd8\xda\x6f\x60\xc1\x5d\xd1\x7b\x7d\x00";
-    magic(b"magic of 0 bytes", packer::show(m, part(0, 0)));
-    magic(b"magic of 15 bytes", packer::show(m, part(0, 15)));
-    magic(b"magic of 16 bytes", packer::show(m, part(0, 16)));
-    magic(b"magic of 19 bytes", m);
+fn times_256(b: u8) -> i32 {
+    num::signed(b as u32 * 256)
 }
 
-fn no_magics() {
-    let m = b"\x69\x9d\xb1\x7b\x8e\xfb\x34\xff\xb1\xd8\xda\x6f\x60\xc1\x5d\xd1\x7b";
-    magic(b"15 bytes of no magic", packer::show(m, part(1, 15)));
-    magic(b"16 bytes of no magic", packer::show(m, part(1, 16)));
-    magic(
-        b"first byte wrong",
-        b"\x68\x9d\xb1\x7b\x8e\xfb\x34\xff\xb1\xd8\xda\x6f\x60\xc1\x5d\xd1",
-    );
-    magic(
-        b"last byte wrong",
-        b"\x69\x9d\xb1\x7b\x8e\xfb\x34\xff\xb1\xd8\xda\x6f\x60\xc1\x5d\xd0\xd1",
-    );
+fn say_version(version: Version) {
+    match version {
+        Version::V1 => say(b" is V1\n"),
+        Version::V2 => say(b" is V2\n"),
+    }
 }
 
-fn version(name: &[u8], n: i32) {
-    say(name);
-    match kinds::version_of(n) {
-        VersionOf::Is(v) => match v {
-            Version::V1 => say(b" is V1\n"),
-            Version::V2 => say(b" is V2\n"),
-        },
+fn version(s: &[u8]) {
+    match kinds::version_of(num::wrapping_add(cases::number(s, 0), times_256(cases::byte(s, 1)))) {
+        VersionOf::Is(v) => say_version(v),
         VersionOf::Refused(r) => say_refused(r),
     }
 }
 
-fn versions() {
-    version(b"version 0", 0);
-    version(b"version 1", 1);
-    version(b"version 2", 2);
-    version(b"version 3", 3);
-    version(b"version -1", -1);
-    version(b"version 257", 257);
-    version(b"version -2147483648", -2147483648);
+fn place(b: u8) -> usize {
+    if b == 255 {
+        return 18446744073709551615;
+    }
+    cases::size(b)
 }
 
-fn show(name: &[u8], at: usize, len: usize) {
-    say(name);
+fn show(at: usize, len: usize) {
     say(b" <");
-    say(packer::show(b"abcd", part(at, len)));
+    say(packer::show(b"abcd", Part { at, len }));
     say(b">\n");
 }
 
-fn shows() {
-    show(b"part 0 4", 0, 4);
-    show(b"part 1 2", 1, 2);
-    show(b"part 4 0", 4, 0);
-    show(b"part 0 5", 0, 5);
-    show(b"part 3 2", 3, 2);
-    show(b"part 5 0", 5, 0);
-    show(b"part 1 18446744073709551615", 1, 18446744073709551615);
-    show(b"part 18446744073709551615 1", 18446744073709551615, 1);
-    show(
-        b"part 18446744073709551615 18446744073709551615",
-        18446744073709551615,
-        18446744073709551615,
-    );
+fn run_bytes(what: u8, s: &[u8]) {
+    match what {
+        0 => magic(s),
+        1 => version(s),
+        _ => show(place(cases::byte(s, 0)), place(cases::byte(s, 1))),
+    }
+}
+
+fn run_named(what: u8, case: &[u8]) {
+    say(cases::name(case));
+    run_bytes(what, cases::behind_name(case));
+}
+
+fn run_case(case: &[u8]) {
+    run_named(cases::byte(case, 0), cases::window(case, 1, case.len()));
 }
 
 fn main() {
-    magics();
-    no_magics();
-    versions();
-    shows();
+    let mut buf = io::large_buffer();
+    let n = io::read_full(0, &mut buf);
+    for k in 0..cases::count(&buf[..n], 1) {
+        run_case(cases::nth(&buf[..n], 1, k));
+    }
 }

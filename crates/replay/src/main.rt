@@ -80,23 +80,17 @@ fn one_turn(left: Left, buf: &[u8], rows: &mut [i32], tens: &mut [i32], out: &mu
     }
 }
 
-fn after_read(reader: Reader, fed: Fed) -> Left {
-    let hand = fed.hand;
-    Left {
-        reader,
-        hand,
-        goes: !fed.failed,
-        wants: false,
-    }
-}
-
 // A read, where more bytes are wanted.
 fn with_read(left: Left, buf: &mut [u8]) -> Left {
+    let mut next = left;
     if good::both(left.goes, left.wants) {
-        let reader = left.reader;
-        return after_read(reader, read_on(buf, left.hand));
+        let fed = read_on(buf, left.hand);
+        let hand = fed.hand;
+        next.hand = hand;
+        next.goes = !fed.failed;
+        next.wants = false;
     }
-    left
+    next
 }
 
 // A turn, and a read where it wants more bytes.
@@ -104,7 +98,7 @@ fn round(left: Left, buf: &mut [u8], rows: &mut [i32], tens: &mut [i32], out: &m
     with_read(one_turn(left, buf, rows, tens, out), buf)
 }
 
-// The turns that may follow.
+// The turns that may follow: fewer than there were, and none where none follows.
 fn fewer(turns: u64, goes: bool) -> u64
     requires { ⌜ 0 < turns ⌝ }
     ensures { λ r. ⌜ r < turns ⌝ }
@@ -118,7 +112,7 @@ fn fewer(turns: u64, goes: bool) -> u64
 // Turns until one is the last. Each gives an event, the last line or a read; their number is there to bound them.
 fn replay(first: Left, buf: &mut [u8], rows: &mut [i32], tens: &mut [i32], out: &mut [u8]) {
     let mut left = first;
-    let mut turns: u64 = 18446744073709551615;
+    let mut turns: u64 = fewer(18446744073709551615, first.goes);
     while 0 < turns {
         left = round(left, buf, rows, tens, out);
         turns = fewer(turns, left.goes);
@@ -137,39 +131,51 @@ fn number(b: u8) -> i32 {
     b as i32
 }
 
-// The first turn of a body behind a version byte.
-fn first_turn(version: Version, hand: Hand) -> Left {
+// What the first turn of a body begins with: what is at hand, behind the version byte.
+fn first_left(version: Version, hand: Hand, goes: bool) -> Left {
     Left {
         reader: Reader::empty(version),
         hand: feed::pass(hand, 1),
-        goes: true,
+        goes,
         wants: false,
     }
 }
 
-// The input from its version byte on.
-fn start(hand: Hand, buf: &mut [u8], rows: &mut [i32], tens: &mut [i32], out: &mut [u8]) {
-    if buf.len() == 0 {
-        return;
-    }
-    match kinds::version_of(number(buf[0])) {
-        VersionOf::Is(version) => replay(first_turn(version, hand), buf, rows, tens, out),
-        VersionOf::Refused(r) => refuse(r),
+// No turn follows.
+fn no_turn(hand: Hand) -> Left {
+    first_left(Version::V1, hand, false)
+}
+
+// The version byte.
+fn behind_version(number: i32, hand: Hand) -> Left {
+    match kinds::version_of(number) {
+        VersionOf::Is(version) => first_left(version, hand, true),
+        VersionOf::Refused(r) => {
+            refuse(r);
+            no_turn(hand)
+        }
     }
 }
 
-// The whole of the input.
-fn run(buf: &mut [u8], rows: &mut [i32], tens: &mut [i32], out: &mut [u8]) {
-    let fed = read_on(buf, Hand::empty());
+// After the first read. A body that ends before its version byte is refused 2.
+fn begun(fed: Fed, buf: &[u8]) -> Left {
     let hand = fed.hand;
     if fed.failed {
-        return;
+        return no_turn(hand);
     }
     if hand.ended {
         refuse(Refusal::UnknownVersion);
-        return;
+        return no_turn(hand);
     }
-    start(hand, buf, rows, tens, out);
+    if buf.len() == 0 {
+        return no_turn(hand);
+    }
+    behind_version(number(buf[0]), hand)
+}
+
+fn begin(buf: &mut [u8]) -> Left {
+    let fed = read_on(buf, Hand::empty());
+    begun(fed, buf)
 }
 
 // The arrays that main lends.
@@ -202,5 +208,6 @@ fn main() {
     let mut rows = row_space();
     let mut tens = ten_space();
     let mut out = text_space();
-    run(&mut buf, &mut rows, &mut tens, &mut out);
+    let first = begin(&mut buf);
+    replay(first, &mut buf, &mut rows, &mut tens, &mut out);
 }

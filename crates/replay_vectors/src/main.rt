@@ -1,7 +1,5 @@
 // Replays bodies by turns, with room for a few events only, and prints their lines. Standard input holds inputs one behind the other, each
 // after its length in three bytes, the low one first: a version byte, then a body.
-ghost use mathlib.Core.Path.{_≡_};
-ghost use lib.ListN.{length};
 use feed::Hand;
 use kinds::Version;
 use kinds::VersionOf;
@@ -16,31 +14,13 @@ fn print(text: &[u8], n: usize) {
 
 // What is at hand of a body of a length after more of it was wanted: as much again and a byte, then its end.
 fn come(hand: Hand, wants: bool, len: usize) -> Hand {
-    if !wants {
-        return hand;
+    let mut next = hand;
+    if wants {
+        let again = cases::difference(hand.end, hand.at);
+        next.end = cases::past(cases::past(hand.end, again, len), 1, len);
+        next.ended = len <= hand.end;
     }
-    let at = hand.at;
-    let end = hand.end;
-    let again = cases::difference(end, at);
-    if len <= end {
-        return Hand {
-            at,
-            end,
-            ended: true,
-        };
-    }
-    if len - end <= again {
-        return Hand {
-            at,
-            end: len,
-            ended: false,
-        };
-    }
-    Hand {
-        at,
-        end: end + again + 1,
-        ended: false,
-    }
+    next
 }
 
 // What a turn leaves, and whether it was the last.
@@ -108,14 +88,8 @@ fn run_case(input: &[u8]) {
     }
 }
 
-fn buffer() -> [u8; 1048576]
-    ensures { λ r. ⌜ 1048576 ≡ length r ⌝ }
-{
-    [0; 1048576]
-}
-
 fn main() {
-    let mut buf = buffer();
+    let mut buf = cases::buffer();
     let n = io::read_full(0, &mut buf);
     for k in 0..cases::count(&buf[..n], 3) {
         run_case(cases::nth(&buf[..n], 3, k));

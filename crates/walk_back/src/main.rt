@@ -1,6 +1,7 @@
 // Demand 3 seen running. Each body is read to its end; then the board is stepped back over its events, last first, to the empty board.
 // Every board on the way is compared with the one that reading had there. The events are printed as they are taken off, and `empty` at
-// the end. Standard input is as that of reader_vectors.
+// the end. Standard input holds inputs one behind the other, each after its length in two bytes, the low one first: a version byte, then a
+// body.
 use back::BackAnswer;
 use back::Board;
 use back::SteppedBack;
@@ -39,33 +40,31 @@ fn read_at(spot: Spot, body: &[u8]) -> ReadAnswer {
 
 // The spot past the event of a call at a spot.
 fn past(spot: Spot, read: ReadAnswer, len: usize) -> Spot {
+    let mut next = spot;
     let answer = read.answer;
-    let before = spot.reader;
-    let next = read.reader;
-    match texts::used_in(answer) {
-        Used::Bytes(used) => Spot {
-            reader: next,
-            at: cases::past(spot.at, used, len),
-            events: cases::past(spot.events, 1, 100000),
-            over: false,
-        },
-        Used::NoEvent => Spot {
-            reader: before,
-            at: spot.at,
-            events: spot.events,
-            over: true,
-        },
+    let reader = read.reader;
+    let Used::Bytes(used) = texts::used_in(answer) else {
+        next.over = true;
+        return next;
+    };
+    next.reader = reader;
+    next.at = cases::past(spot.at, used, len);
+    next.events = cases::past(spot.events, 1, 100000);
+    next
+}
+
+fn first_spot(version: Version) -> Spot {
+    Spot {
+        reader: Reader::empty(version),
+        at: 0,
+        events: 0,
+        over: false,
     }
 }
 
 // The reader after so many events, or after as many as there are.
 fn after(version: Version, body: &[u8], most: usize) -> Spot {
-    let mut spot = Spot {
-        reader: Reader::empty(version),
-        at: 0,
-        events: 0,
-        over: false,
-    };
+    let mut spot = first_spot(version);
     for _ in 0..most {
         spot = past(spot, read_at(spot, body), body.len());
         if spot.over {
@@ -75,24 +74,18 @@ fn after(version: Version, body: &[u8], most: usize) -> Spot {
     spot
 }
 
-// The event of a call taken off a board.
+// The event of a call taken off a board; where it has none, as if that were refused.
 fn undone(board: Board, read: ReadAnswer) -> SteppedBack {
     let answer = read.answer;
     let input = read.input;
     let former = read.former;
-    match answer {
-        Answer::Event { event, used: _ } => back::step_back(board, event, input, former),
-        Answer::More => refuse(board),
-        Answer::Finish { used: _ } => refuse(board),
-        Answer::Refused(_) => refuse(board),
-    }
-}
-
-fn refuse(board: Board) -> SteppedBack {
-    SteppedBack {
-        answer: BackAnswer::Refused(Refusal::NotLast),
-        board,
-    }
+    let Answer::Event { event, used: _ } = answer else {
+        return SteppedBack {
+            answer: BackAnswer::Refused(Refusal::NotLast),
+            board,
+        };
+    };
+    back::step_back(board, event, input, former)
 }
 
 // The board that a step back gave, which is to be that of a reader.
@@ -132,11 +125,15 @@ fn back_over(version: Version, body: &[u8], n: usize, last: Board) -> Board {
     board
 }
 
+fn board_at(spot: Spot) -> Board {
+    let reader = spot.reader;
+    back::board_of(reader)
+}
+
 fn walk(version: Version, body: &[u8]) {
     let last = after(version, body, 100000);
-    let reader = last.reader;
-    let first = back_over(version, body, last.events, back::board_of(reader));
-    if alike::same_board(first, back::board_of(Reader::empty(version))) {
+    let first = back_over(version, body, last.events, board_at(last));
+    if alike::same_board(first, board_at(first_spot(version))) {
         say(b"empty\n");
     }
 }

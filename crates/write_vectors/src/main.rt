@@ -1,15 +1,17 @@
-// Writes records. First records made by hand, each after its name: every cause of refusal 11 but data above 2147483647 bytes, which a
-// program has no memory for, and beside it a record that is written. Then standard input, which is that of record_vectors: each record
-// is read and written again. A line is the written form in hex, `refused` with the number, or `-` where the bytes give no record. A
-// record is written with room around it, into a target that it fills, and into one that is a byte short.
-ghost use Prim.Native.Nat.{_<_};
+// Writes records: every cause of refusal 11 but data above 2147483647 bytes, which a program has no memory for, each beside a record that is
+// written; and records that bytes give. A line is a name, where the case has one, then the written form in hex, `refused` with the number, or
+// `-` where the bytes give no record. A record is written with room around it, into a target that it fills, and into one that is a byte short.
+// Standard input holds cases one behind the other, each after its length in a byte.
+//   1 or 2: a version; then bytes, of which the record is read and written again
+//   0: a record made by hand: the length of its name, the name, and what bytes say: version, which record (`simple`, `with_part`, `with_place`), a
+//      number, the place of an identifier, the place and the length of a part, the same of every argument, how many arguments; then the
+//      bytes lent. From 252 on a byte stands for a large number
 use fields::Args;
 use item::Item;
 use item::Record;
 use kinds::Version;
 use libc::STDOUT_FILENO;
 use packer::Part;
-use packer::PartRead;
 use records::CallAnswer;
 use varint::Wrote;
 
@@ -29,378 +31,133 @@ fn print_bytes(b: &[u8]) {
     }
 }
 
-fn part(at: usize, len: usize) -> Part {
-    Part { at, len }
+fn print_refused(number: u8) {
+    say(b"refused ");
+    io::print_decimal(STDOUT_FILENO, wide(number));
 }
 
-// Whether two targets are the same from a place to an end.
-fn same_to(a: &[u8], b: &[u8], at: usize, end: usize) -> bool {
-    check::same(cases::window(a, at, end), cases::window(b, at, end))
+// ---- writing
+
+// A target after the writer, and what this said.
+struct Target {
+    bytes: [u8; 512],
+    wrote: Wrote,
+}
+
+fn write_at(version: Version, value: Record, w: &[u8], at: usize) -> Target {
+    let mut bytes = [165u8; 512];
+    let wrote = record_writer::write_record(version, value, w, &mut bytes, at);
+    Target { bytes, wrote }
+}
+
+// The place past the record; 0 in a refusal.
+fn end_of(wrote: Wrote) -> usize {
+    match wrote {
+        Wrote::Past(end) => end,
+        Wrote::Refused(_) => 0,
+    }
+}
+
+// The number of the refusal; 0 if it is written.
+fn refused(wrote: Wrote) -> u8 {
+    match wrote {
+        Wrote::Past(_) => 0,
+        Wrote::Refused(r) => r.number(),
+    }
+}
+
+// Whether a target is untouched from a place to an end.
+fn untouched(bytes: [u8; 512], at: usize, end: usize) -> bool {
+    let before = [165u8; 512];
+    check::same(
+        cases::window(&bytes, at, end),
+        cases::window(&before, at, end),
+    )
+}
+
+// Whether two targets have the same bytes from a place in each.
+fn same_from(a: [u8; 512], i: usize, b: [u8; 512], j: usize, size: usize) -> bool {
+    check::same(
+        cases::window(&a, i, cases::past(i, size, 512)),
+        cases::window(&b, j, cases::past(j, size, 512)),
+    )
 }
 
 // Into a target that has one byte too few: refused 9, and the target stays.
-fn write_short(version: Version, value: Record, w: &[u8], size: usize) {
-    let before = [165u8; 512];
-    let mut out = [165u8; 512];
-    match record_writer::write_record(version, value, w, &mut out, cases::difference(513, size)) {
-        Wrote::Past(_) => say(b" written into a short target"),
-        Wrote::Refused(r) => {
-            if r.number() != 9 {
-                say(b" not refused 9");
-            }
-        }
-    }
-    if !check::same(&out, &before) {
-        say(b" a refusal changes the target");
+fn short(version: Version, value: Record, w: &[u8], size: usize) -> bool {
+    let target = write_at(version, value, w, cases::difference(513, size));
+    let bytes = target.bytes;
+    let wrote = target.wrote;
+    (refused(wrote) == 9) & untouched(bytes, 0, 512)
+}
+
+// Into a target that the record fills to its end: the bytes that stood at place 3, and nothing before them.
+fn full(version: Version, value: Record, w: &[u8], first: [u8; 512], size: usize) -> bool {
+    let at = cases::difference(512, size);
+    let target = write_at(version, value, w, at);
+    let bytes = target.bytes;
+    let wrote = target.wrote;
+    (end_of(wrote) == 512) & same_from(bytes, at, first, 3, size) & untouched(bytes, 0, at)
+}
+
+// With room around the record: nothing is written beside it.
+fn only(bytes: [u8; 512], end: usize) -> bool {
+    untouched(bytes, 0, 3) & untouched(bytes, end, 512)
+}
+
+fn print_wrote(target: Target) {
+    let bytes = target.bytes;
+    let wrote = target.wrote;
+    match wrote {
+        Wrote::Past(end) => print_bytes(cases::window(&bytes, 3, end)),
+        Wrote::Refused(r) => print_refused(r.number()),
     }
 }
 
-// Into a target that the record fills to its end: the same bytes, and nothing before them.
-fn write_full(version: Version, value: Record, w: &[u8], bytes: &[u8]) {
-    let before = [165u8; 512];
-    let mut out = [165u8; 512];
-    let at = cases::difference(512, bytes.len());
-    let Wrote::Past(end) = record_writer::write_record(version, value, w, &mut out, at) else {
-        say(b" refused a target that it fills");
-        return;
-    };
-    if end != 512 {
-        say(b" another size");
-    }
-    if !check::same(cases::window(&out, at, 512), bytes) {
-        say(b" other bytes at another place");
-    }
-    if !same_to(&out, &before, 0, at) {
-        say(b" the target is changed before the record");
+// Whether the other two targets agree, and the rest of this one is untouched.
+fn agrees(version: Version, value: Record, w: &[u8], bytes: [u8; 512], end: usize) -> bool {
+    let size = cases::difference(end, 3);
+    full(version, value, w, bytes, size) & short(version, value, w, size) & only(bytes, end)
+}
+
+fn right(version: Version, value: Record, w: &[u8], target: Target) -> bool {
+    let bytes = target.bytes;
+    let wrote = target.wrote;
+    match wrote {
+        Wrote::Past(end) => agrees(version, value, w, bytes, end),
+        Wrote::Refused(_) => untouched(bytes, 0, 512),
     }
 }
 
-// With room around it: the bytes, and nothing beside them.
 fn write_line(version: Version, value: Record, w: &[u8]) {
-    let before = [165u8; 512];
-    let mut out = [165u8; 512];
-    match record_writer::write_record(version, value, w, &mut out, 3) {
-        Wrote::Past(end) => {
-            let bytes = cases::window(&out, 3, end);
-            print_bytes(bytes);
-            write_full(version, value, w, bytes);
-            write_short(version, value, w, bytes.len());
-            if !same_to(&out, &before, 0, 3) {
-                say(b" the target is changed before the record");
-            }
-            if !same_to(&out, &before, end, 512) {
-                say(b" the target is changed behind the record");
-            }
-        }
-        Wrote::Refused(r) => {
-            say(b"refused ");
-            io::print_decimal(STDOUT_FILENO, r.number() as u64);
-            if !check::same(&out, &before) {
-                say(b" a refusal changes the target");
-            }
-        }
+    let target = write_at(version, value, w, 3);
+    print_wrote(target);
+    if !right(version, value, w, target) {
+        say(b" another target differs, or bytes beside the record");
     }
     say(b"\n");
 }
 
-const NO_PART: Part = Part { at: 0, len: 0 };
+// ---- a record made by hand
 
-fn try_with(name: &[u8], version: Version, item: Item, count: usize, arg: Part, w: &[u8]) {
-    let args = Args {
-        count,
-        parts: [arg; 16],
-    };
-    let value = Record {
-        item,
-        input: [0; 10],
-        args,
-    };
-    say(name);
-    say(b" ");
-    write_line(version, value, w);
-}
-
-fn try_item(name: &[u8], version: Version, item: Item, w: &[u8]) {
-    try_with(name, version, item, 0, NO_PART, w);
-}
-
-fn try_diff(name: &[u8], cid: i32) {
-    try_item(
-        name,
-        Version::V1,
-        Item::PlayerDiff { cid, dx: 1, dy: -1 },
-        b"",
-    );
-}
-
-fn try_skip(name: &[u8], dt: u32) {
-    try_item(name, Version::V1, Item::TickSkip { dt }, b"");
-}
-
-// A command of three bytes lent, `a`, 00, `b`, with so many arguments, all of them this part.
-fn try_command(name: &[u8], cmd: Part, count: usize, arg: Part) {
-    let item = Item::ConsoleCommand {
-        cid: 5,
-        flag_mask: 4294967295,
-        cmd,
-    };
-    try_with(name, Version::V1, item, count, arg, b"a\0b");
-}
-
-fn diffs() {
-    try_diff(b"diff of -1", -1);
-    try_diff(b"diff of -2147483648", -2147483648);
-    try_diff(b"diff of 0", 0);
-    try_diff(b"diff of 2147483647", 2147483647);
-}
-
-fn skips() {
-    try_skip(b"skip of 2147483648", 2147483648);
-    try_skip(b"skip of 4294967295", 4294967295);
-    try_skip(b"skip of 2147483647", 2147483647);
-}
-
-fn commands() {
-    try_command(b"command", part(0, 1), 0, part(0, 0));
-    try_command(b"command with 00", part(0, 3), 0, part(0, 0));
-    try_command(b"command outside", part(1, 3), 0, part(0, 0));
-}
-
-fn arguments() {
-    try_command(b"argument", part(0, 1), 1, part(2, 1));
-    try_command(b"argument with 00", part(0, 1), 1, part(0, 2));
-    try_command(b"argument outside", part(0, 1), 1, part(2, 2));
-    try_command(b"argument that does not count", part(0, 1), 0, part(2, 2));
-}
-
-fn many_arguments() {
-    try_command(b"16 arguments", part(0, 1), 16, part(2, 1));
-    try_command(b"17 arguments", part(0, 1), 17, part(2, 1));
-    try_command(
-        b"18446744073709551615 arguments",
-        part(0, 1),
-        18446744073709551615,
-        part(2, 1),
-    );
-}
-
-// A record over the bytes `a`, 00, `b` and 16 more.
-fn try_lent(name: &[u8], item: Item) {
-    try_item(name, Version::V2, item, b"a\0b0123456789abcdef");
-}
-
-fn try_auths(p: Part) {
-    let init = Item::AuthInit {
-        cid: 5,
-        level: 6,
-        identity: p,
-    };
-    let login = Item::AuthLogin {
-        cid: 5,
-        level: 6,
-        identity: p,
-    };
-    try_lent(b"AuthInit", init);
-    try_lent(b"AuthLogin", login);
-}
-
-// The 16 bytes of an identifier begin at a place.
-fn try_ddnetver(place: usize, p: Part) {
-    let item = Item::Ddnetver {
-        cid: 5,
-        connection_id: place,
-        ddnet_version: 6,
-        ddnet_version_str: p,
-    };
-    try_lent(b"Ddnetver", item);
-}
-
-fn try_saves(place: usize, p: Part) {
-    let load = Item::TeamLoadSuccess {
-        team: 5,
-        save_uuid: place,
-        save: p,
-    };
-    let save = Item::TeamSaveSuccess {
-        team: 5,
-        save_uuid: place,
-        save: p,
-    };
-    try_lent(b"TeamLoadSuccess", load);
-    try_lent(b"TeamSaveSuccess", save);
-}
-
-fn try_unknown(place: usize, p: Part) {
-    try_lent(
-        b"UnknownEx",
-        Item::UnknownEx {
-            uuid: place,
-            data: p,
-        },
-    );
-}
-
-fn title(name: &[u8]) {
-    say(name);
-    say(b":\n");
-}
-
-// Each record that has a string.
-fn try_strings(name: &[u8], p: Part) {
-    title(name);
-    try_lent(b"Drop", Item::Drop { cid: 5, reason: p });
-    try_auths(p);
-    try_ddnetver(3, p);
-    try_lent(b"PlayerName", Item::PlayerName { cid: 5, name: p });
-    try_saves(3, p);
-}
-
-// Each record that has data.
-fn try_data(name: &[u8], p: Part) {
-    title(name);
-    try_lent(b"Message", Item::Message { cid: 5, msg: p });
-    try_lent(b"Antibot", Item::Antibot { data: p });
-    try_unknown(3, p);
-}
-
-// Each record that has an identifier.
-fn try_places(name: &[u8], place: usize) {
-    let a = part(0, 1);
-    title(name);
-    try_ddnetver(place, a);
-    try_saves(place, a);
-    try_unknown(place, a);
-}
-
-fn strings() {
-    try_strings(b"string", part(0, 1));
-    try_strings(b"string with 00", part(0, 3));
-    try_strings(b"empty string at the end", part(19, 0));
-    try_strings(b"empty string behind the end", part(20, 0));
-    try_strings(b"string to behind the end", part(18, 2));
-}
-
-fn data_parts() {
-    try_data(b"data with 00", part(0, 3));
-    try_data(b"empty data at the end", part(19, 0));
-    try_data(b"empty data behind the end", part(20, 0));
-    try_data(b"data to behind the end", part(18, 2));
-}
-
-fn huge_parts() {
-    try_data(
-        b"data of 18446744073709551615 bytes",
-        part(2, 18446744073709551615),
-    );
-    try_data(
-        b"data at 18446744073709551615",
-        part(18446744073709551615, 2),
-    );
-}
-
-fn places() {
-    try_places(b"identifier to the end", 3);
-    try_places(b"identifier to behind the end", 4);
-    try_places(b"identifier at 18446744073709551615", 18446744073709551615);
-}
-
-fn all_parts() {
-    strings();
-    data_parts();
-    huge_parts();
-    places();
-}
-
-fn versions(version: Version) {
-    let w = b"0123456789abcdef";
-    try_item(b"Joinver6", version, Item::Joinver6 { cid: 5 }, w);
-    try_item(
-        b"PlayerSwap",
-        version,
-        Item::PlayerSwap { cid1: 5, cid2: 6 },
-        w,
-    );
-    try_item(b"Antibot", version, Item::Antibot { data: part(0, 1) }, w);
-    try_item(
-        b"UnknownEx",
-        version,
-        Item::UnknownEx {
-            uuid: 0,
-            data: part(0, 1),
-        },
-        w,
-    );
-}
-
-const MAGIC: [u8; 16] = [
-    0x69,
-    0x9d,
-    0xb1,
-    0x7b,
-    0x8e,
-    0xfb,
-    0x34,
-    0xff,
-    0xb1,
-    0xd8,
-    0xda,
-    0x6f,
-    0x60,
-    0xc1,
-    0x5d,
-    0xd1,
-];
-
-// A byte of row k of the identifiers; row 20 is the magic.
-fn row_byte(k: usize, j: usize) -> u8
-    requires { ⌜ j < 16 ⌝ }
-{
-    if k < 20 {
-        return ids::id_byte(extensions::extension_at(k), j);
-    }
-    MAGIC[j]
-}
-
-// The 16 bytes of row k.
-fn id_row(k: usize) -> [u8; 16]
-    requires { ⌜ k < 21 ⌝ }
-{
-    let mut row = [0u8; 16];
-    let mut j: usize = 0;
-    while j < 16 {
-        row[j] = row_byte(k, j);
-        j += 1;
-    }
-    row
-}
-
-// UnknownEx with each of the 20 identifiers, then with the magic, which is none.
-fn identifiers() {
-    let mut k: usize = 0;
-    while k < 21 {
-        let w = id_row(k);
-        print_bytes(&w);
-        try_item(
-            b"",
-            Version::V2,
-            Item::UnknownEx {
-                uuid: 0,
-                data: NO_PART,
-            },
-            &w,
-        );
-        k += 1;
+fn number(s: &[u8], i: usize) -> usize {
+    match cases::byte(s, i) {
+        252 => 2147483647,
+        253 => 2147483648,
+        254 => 4294967295,
+        255 => 18446744073709551615,
+        b => cases::size(b),
     }
 }
 
-fn run_case(version: Version, w: &[u8]) {
-    let call = records::record_call(version, w, true);
-    let answer = call.answer;
-    let value = call.value;
-    match answer {
-        CallAnswer::Got(_) => write_line(version, value, w),
-        CallAnswer::More => say(b"-\n"),
-        CallAnswer::Refused(_) => say(b"-\n"),
+fn word(n: usize) -> u32 {
+    (n % 4294967296) as u32
+}
+
+fn part_in(s: &[u8], at: usize, len: usize) -> Part {
+    Part {
+        at: number(s, at),
+        len: number(s, len),
     }
 }
 
@@ -408,39 +165,131 @@ fn version_of(b: u8) -> Version {
     if b == 1 { Version::V1 } else { Version::V2 }
 }
 
-fn run(s: &[u8]) {
-    let mut at: usize = 0;
-    let mut turns: usize = 0;
-    while turns < s.len() {
-        turns += 1;
-        if s.len() <= at {
-            return;
-        }
-        let version = version_of(s[at]);
-        let PartRead::Got { part, next } = cases::case_at(s, at + 1, 1) else {
-            return;
-        };
-        run_case(version, packer::show(s, part));
-        at = next;
+fn simple(which: u8, n: u32) -> Item {
+    match which {
+        0 => Item::PlayerDiff {
+            cid: num::signed(n),
+            dx: 1,
+            dy: -1,
+        },
+        1 => Item::TickSkip { dt: n },
+        2 => Item::Joinver6 { cid: 5 },
+        _ => Item::PlayerSwap { cid1: 5, cid2: 6 },
     }
 }
 
-// The records made by hand.
-fn by_hand() {
-    diffs();
-    skips();
-    commands();
-    arguments();
-    many_arguments();
-    all_parts();
-    versions(Version::V1);
-    versions(Version::V2);
-    identifiers();
+fn with_part(which: u8, p: Part) -> Item {
+    match which {
+        4 => Item::ConsoleCommand {
+            cid: 5,
+            flag_mask: 4294967295,
+            cmd: p,
+        },
+        5 => Item::Drop { cid: 5, reason: p },
+        6 => Item::AuthInit {
+            cid: 5,
+            level: 6,
+            identity: p,
+        },
+        7 => Item::AuthLogin {
+            cid: 5,
+            level: 6,
+            identity: p,
+        },
+        8 => Item::PlayerName { cid: 5, name: p },
+        9 => Item::Message { cid: 5, msg: p },
+        _ => Item::Antibot { data: p },
+    }
+}
+
+// With an identifier of 16 bytes that begins at a place.
+fn with_place(which: u8, place: usize, p: Part) -> Item {
+    match which {
+        11 => Item::Ddnetver {
+            cid: 5,
+            connection_id: place,
+            ddnet_version: 6,
+            ddnet_version_str: p,
+        },
+        12 => Item::TeamLoadSuccess {
+            team: 5,
+            save_uuid: place,
+            save: p,
+        },
+        13 => Item::TeamSaveSuccess {
+            team: 5,
+            save_uuid: place,
+            save: p,
+        },
+        _ => Item::UnknownEx {
+            uuid: place,
+            data: p,
+        },
+    }
+}
+
+fn item_in(s: &[u8]) -> Item {
+    let which = cases::byte(s, 1);
+    if which < 4 {
+        return simple(which, word(number(s, 2)));
+    }
+    if which < 11 {
+        return with_part(which, part_in(s, 4, 5));
+    }
+    with_place(which, number(s, 3), part_in(s, 4, 5))
+}
+
+fn record_in(s: &[u8]) -> Record {
+    let args = Args {
+        count: number(s, 8),
+        parts: [part_in(s, 6, 7); 16],
+    };
+    Record {
+        item: item_in(s),
+        input: [0; 10],
+        args,
+    }
+}
+
+// Written with the bytes lent, which stand behind what the record is made of.
+fn write_made(s: &[u8]) {
+    let version = version_of(cases::byte(s, 0));
+    write_line(version, record_in(s), cases::window(s, 9, s.len()));
+}
+
+fn by_hand(s: &[u8]) {
+    say(cases::name(s));
+    say(b" ");
+    write_made(cases::behind_name(s));
+}
+
+// ---- a record that bytes give
+
+fn by_bytes(version: Version, w: &[u8]) {
+    let call = records::record_call(version, w, true);
+    let answer = call.answer;
+    let value = call.value;
+    if let CallAnswer::Got(_) = answer {
+        write_line(version, value, w);
+        return;
+    }
+    say(b"-\n");
+}
+
+fn run_case(case: &[u8]) {
+    let what = cases::byte(case, 0);
+    let rest = cases::window(case, 1, case.len());
+    if what == 0 {
+        by_hand(rest);
+        return;
+    }
+    by_bytes(version_of(what), rest);
 }
 
 fn main() {
-    by_hand();
-    let mut buf = io::large_buffer();
+    let mut buf = cases::buffer();
     let n = io::read_full(0, &mut buf);
-    run(&buf[..n]);
+    for k in 0..cases::count(&buf[..n], 1) {
+        run_case(cases::nth(&buf[..n], 1, k));
+    }
 }

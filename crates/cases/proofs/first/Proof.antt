@@ -9,7 +9,7 @@ use Rattle.cases.proofs.first.Tie as tie
 returns : tie.Need-returns
 returns c =
     let x : toZ w32 (ofZ w32 (c .signed .result)) ≡ c .signed .result = search needs in
-    rw x (rw (c .before .first-byte .ensures) at (c .signed .ensures))
+    rw x (rw (c .before .word .ensures, c .before .before .byte .ensures) at (c .signed .ensures))
 
 pub first-spec : {M : Type 1} → statement M
-first-spec = tie.close (tie.spec (λ c κs. search needs) (λ c κs. search needs) returns)
+first-spec = tie.close (tie.spec (λ c κs. search needs) (λ c κs. search needs) (λ c κs. search needs) returns)
