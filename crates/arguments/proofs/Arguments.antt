@@ -1,8 +1,9 @@
 -- The arguments beside what a call says: those of a command, read again; else none. Assumes nothing.
 use Prim.Native.Nat.{ℕ}
 use mathlib.Core.Path.{_≡_, refl, sym, ap, subst, _∙_}
-use mathlib.Core.Bool.{Bool, true, false}
+use mathlib.Core.Bool.{Bool, true, false, cond}
 use mathlib.Core.List.{List, [], _++_}
+use lib.ListN.{take}
 use lib.IntN.{ℤ}
 use Rattle.packer.specs.declared.Part.{Part}
 use Rattle.fields.specs.Fields.{Value, Reading, got}
@@ -11,11 +12,10 @@ use Rattle.fields.specs.declared.Args.{Args}
 use Rattle.fields.proofs.Answers.{not-out, not-refused}
 use Rattle.item.specs.Said.{Said, gives, more, finish, refuses}
 use Rattle.item.specs.Records.{Content, content, readRest}
-use Rattle.item.specs.Contents.{itemOf, beside, withBeside, noArgs, recordOf, tidyKind, tidyTag}
+use Rattle.item.specs.Contents.{itemOf, beside, withBeside, noArgs, recordOf, argsIn, tidyTag}
 use Rattle.kinds.specs.Views.{kindIs}
 use Rattle.item.specs.declared.Item.{Item}
 use Rattle.kinds.specs.declared.Kind.{Kind}
-use Rattle.kinds.specs.declared.Kind.the-variants as kinds
 use Rattle.kinds.specs.declared.KindRead.{KindRead}
 use Rattle.kinds.specs.declared.KindRead.the-variants as reads
 use Rattle.item.specs.declared.Record.{Record}
@@ -30,7 +30,7 @@ use Rattle.records.specs.declared.RecordRead.{RecordRead}
 use Rattle.records.proofs.Beside.{own-record}
 use Rattle.state.specs.Sorts.{tagSort}
 use Rattle.state.specs.State.{Memory}
-use Rattle.state.specs.Reading.{Event, tickStart, tickEnd, playerNew, playerChange, playerOld, input, other, nextKind, openCall}
+use Rattle.state.specs.Reading.{Event, other, nextKind, openCall}
 use Rattle.state.specs.Views.{saidIs, slimSaid}
 use Rattle.state.specs.declared.Scalars.{Scalars}
 use Rattle.state.specs.declared.Event.the-variants as events
@@ -39,8 +39,9 @@ use Rattle.state.specs.declared.Answer.the-variants as answers
 use Rattle.state.proofs.Every.{by-cond}
 use Rattle.rests.specs.steps.Kinds.{otherSort}
 use Rattle.rests.proofs.Others.{no-other, by-other}
-use Rattle.rests.proofs.Slim.{otherSaid, slim-said}
-use Rattle.kinds.specs.Kinds.{isCommand}
+use Rattle.rests.proofs.Slim.{otherEvent, otherSaid, slim-same, slim-said}
+use Rattle.kinds.specs.Kinds.{Beside, kindRow, hasArguments, isCommand}
+use Rattle.kinds.specs.Kinds as rows
 use Rattle.arguments.specs.Arguments.{kindArgs, tagArgs, answerArgs, saidWith}
 use Rattle.arguments.specs.steps.Inside.{isRecord, ArgsFor}
 use Rattle.arguments.proofs.Whole.{whole-got}
@@ -61,13 +62,7 @@ record-said (answers.Finish used) = refl
 record-said (answers.Refused r) = refl
 
 slim-other : (x : Said Event) → otherSaid x ≡ otherSaid (slimSaid x)
-slim-other (gives (tickStart t) used) = refl
-slim-other (gives (tickEnd t) used) = refl
-slim-other (gives (playerNew c x y) used) = refl
-slim-other (gives (playerChange c x y old-x old-y) used) = refl
-slim-other (gives (playerOld c x y) used) = refl
-slim-other (gives (input c former) used) = refl
-slim-other (gives (other c) used) = refl
+slim-other (gives e used) = sym (slim-same otherEvent (λ c. refl) e)
 slim-other more = refl
 slim-other (finish used) = refl
 slim-other (refuses k vs) = refl
@@ -188,22 +183,14 @@ answer-beside (rests.Refused q) r c n e o = not-refused e
 
 -- ---- the arguments that stand beside a record are its own
 
-kind-kept : (k : Kind) (r : Record) → tidyKind k r .args ≡ kindArgs k (r .args)
-kind-kept (kinds.PlayerDiff c) r = refl
-kind-kept kinds.Finish r = refl
-kind-kept kinds.TickSkip r = refl
-kind-kept (kinds.PlayerNew c) r = refl
-kind-kept (kinds.PlayerOld c) r = refl
-kind-kept kinds.InputDiff r = refl
-kind-kept kinds.InputNew r = refl
-kind-kept kinds.Message r = refl
-kind-kept kinds.Join r = refl
-kind-kept kinds.Drop r = refl
-kind-kept kinds.ConsoleCommand r = refl
-kind-kept kinds.Ex r = refl
+beside-kept : (b : Beside) (xs : Args) → argsIn b xs ≡ cond (hasArguments b) (argsWith (take (xs .count) (xs .parts))) noArgs
+beside-kept rows.nothing xs = refl
+beside-kept rows.ten xs = refl
+beside-kept rows.arguments xs = refl
+beside-kept rows.ofExtension xs = refl
 
 tag-kept : (t : Tag) (r : Record) → tidyTag t r .args ≡ tagArgs t (r .args)
-tag-kept (Plain k) r = kind-kept k r
+tag-kept (Plain k) r = beside-kept (kindRow k .beside) (r .args)
 tag-kept (Named k) r = refl
 tag-kept Other r = refl
 

@@ -65,32 +65,33 @@ fn put_pairs(n: u32, out: &mut [u8], at: usize) -> usize
     put_pair(n % 100, out, next)
 }
 
-// A number below 1000000.
-fn put_six(n: u32, out: &mut [u8], at: usize) -> usize
-    requires { ⌜ (n < 1000000) × (at + length (natural n) ≤ length (now out)) ⌝ }
+// A number below 10000.
+fn put_four(n: u32, out: &mut [u8], at: usize) -> usize
+    requires { ⌜ (n < 10000) × (at + length (natural n) ≤ length (now out)) ⌝ }
     ensures { λ r. ⌜ PutsText (now (out .entry)) at (natural n) r (now (out .exit)) ⌝ }
 {
-    if n < 100 {
-        return put_two(n, out, at);
-    }
-    if n < 10000 {
+    if 99 < n {
         let next = put_two(n / 100, out, at);
         return put_pair(n % 100, out, next);
     }
-    let next = put_two(n / 10000, out, at);
-    put_pairs(n % 10000, out, next)
+    put_two(n, out, at)
 }
 
-// The digits of n.
+// The digits of n. Most numbers have at most four.
 fn put_natural(n: u32, out: &mut [u8], at: usize) -> usize
     requires { ⌜ at + length (natural n) ≤ length (now out) ⌝ }
     ensures { λ r. ⌜ PutsText (now (out .entry)) at (natural n) r (now (out .exit)) ⌝ }
 {
-    if 9999 < n {
-        let next = put_six(n / 10000, out, at);
+    if n < 10000 {
+        return put_four(n, out, at);
+    }
+    if n < 100000000 {
+        let next = put_four(n / 10000, out, at);
         return put_pairs(n % 10000, out, next);
     }
-    put_six(n, out, at)
+    let next = put_two(n / 100000000, out, at);
+    let more = put_pairs(n / 10000 % 10000, out, next);
+    put_pairs(n % 10000, out, more)
 }
 
 // A space and a number.

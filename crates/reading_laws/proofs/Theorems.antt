@@ -10,10 +10,9 @@ use Rattle.fields.specs.declared.Args.{Args}
 use Rattle.item.specs.Said.{Said, gives, more, finish, refuses, refusing}
 use Rattle.views.proofs.Refusals.{same-refusal}
 use Rattle.state.specs.State.{Memory, goodScalars, goodEntries, goodReader}
-use Rattle.state.specs.Reading.{Event, tickStart, tickEnd, playerNew, playerChange, playerOld, input, other, Step, stepOf, goodCall, memoryOf, readCall, readerAfter}
+use Rattle.state.specs.Reading.{Event, Step, stepOf, goodCall, memoryOf, readCall, readerAfter}
 use Rattle.state.specs.Acts.{BytesRunOut, Act, ReadAct}
 use Rattle.state.specs.Acts as act
-use Rattle.state.specs.Views.{slim}
 use Rattle.state.specs.declared.Entries.{Entries}
 use Rattle.state.specs.declared.Reader.{Reader}
 use Rattle.state.specs.declared.Answer.{Answer}
@@ -22,6 +21,7 @@ use Rattle.state.proofs.Every.{left-of}
 use Rattle.state.proofs.Numbers.{picks-first, picks-second}
 use Rattle.state.proofs.Acts.{read-acts}
 use Rattle.state.proofs.ByActs.{calls-by-acts}
+use Rattle.rests.proofs.Slim.{slim-same}
 use Rattle.reader.specs.Answers.{saidWith}
 use Rattle.reader.specs.declared.ReadAnswer.{ReadAnswer}
 use Rattle.back.specs.Back.{undoOf, stepBack}
@@ -158,15 +158,6 @@ read-determined r w last a b ha hb =
 
 -- ---- stepping back
 
-undo-slim : (e : Event) (ten former : List ℤ) → undoOf e ten former ≡ undoOf (slim e) ten former
-undo-slim (tickStart u) ten former = refl
-undo-slim (tickEnd u) ten former = refl
-undo-slim (playerNew c a b) ten former = refl
-undo-slim (playerChange c a b old-x old-y) ten former = refl
-undo-slim (playerOld c a b) ten former = refl
-undo-slim (input c had) ten former = refl
-undo-slim (other r) ten former = refl
-
 pub back-without-arguments : BackWithoutArguments
 unfolding stepBack
-back-without-arguments b e ten former = rw (undo-slim e ten former)
+back-without-arguments b e ten former = rw (slim-same (λ (d : Event). undoOf d ten former) (λ r. refl) e)

@@ -24,6 +24,7 @@ use packer::PartRead;
 use refusal::Refusal;
 use shapes::Fields;
 use shapes::FieldsRead;
+use shapes::PairRead;
 use shapes::Shape;
 use varint::IntRead;
 
@@ -240,19 +241,11 @@ pub enum HeadRead {
 fn read_head(s: &[u8], at: usize) -> HeadRead
     ensures { λ r. ⌜ headIs r ≡ readFields (ownFields (Plain Kind.ConsoleCommand)) (now (s .entry)) at ⌝ }
 {
-    let IntRead::Got {
-        value: cid,
-        next: at_mask,
-        remark: _,
-    } = varint::read_int(s, at)
-    else {
-        return HeadRead::RunsOut;
-    };
-    let IntRead::Got {
-        value: mask,
+    let PairRead::Got {
+        first: cid,
+        second: mask,
         next: at_cmd,
-        remark: _,
-    } = varint::read_int(s, at_mask)
+    } = shapes::read_pair(s, at)
     else {
         return HeadRead::RunsOut;
     };

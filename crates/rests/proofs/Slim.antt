@@ -7,6 +7,9 @@ use native.Mathlib.Omega.{arith}
 use lib.Dec.{ltb}
 use lib.IntN.{ℤ, pos, negsuc}
 use Rattle.refusal.specs.declared.Refusal.{Refusal}
+use Rattle.packer.specs.declared.Part.{Part}
+use Rattle.item.specs.Records.{Content}
+use Rattle.item.specs.Contents.{ownContent}
 use Rattle.item.specs.Said.{Said, gives, more, finish, refuses}
 use Rattle.state.specs.State.{Memory, present, holds}
 use Rattle.state.specs.Reading.{Event, tickStart, tickEnd, playerNew, playerChange, playerOld, input, other, Step, stepOf, refusalStep, outOf, nextTick, playerDiff, newPlayer, oldPlayer, inputDiff, inputNew, skipped, tickSkip}
@@ -41,6 +44,16 @@ slim-event (playerChange c x y old-x old-y) h = refl
 slim-event (playerOld c x y) h = refl
 slim-event (input c former) h = refl
 slim-event (other c) h = let z : _≡_ {A = ℕ} 0 1 = cc in absurd (omega arith)
+
+-- what is the same of a record without its arguments is the same of every event without them
+pub slim-same : {A : Type 0} (f : Event → A) → ((c : Content Part) → f (other (ownContent c)) ≡ f (other c)) → (e : Event) → f (slim e) ≡ f e
+slim-same f h (tickStart t) = refl
+slim-same f h (tickEnd t) = refl
+slim-same f h (playerNew c x y) = refl
+slim-same f h (playerChange c x y old-x old-y) = refl
+slim-same f h (playerOld c x y) = refl
+slim-same f h (input c former) = refl
+slim-same f h (other c) = h c
 
 -- any other event is itself without arguments
 pub slim-said : (x : Said Event) → otherSaid x ≡ false → slimSaid x ≡ x

@@ -12,16 +12,16 @@ use base.Logic.{SProp, ent, emp, via, fst∗, id⊢}
 use base.Fml.{GName, fat, flft, fobs, fbor}
 use prog.Memory.{Memory}
 use prog.Routine.{Routine}
-use prog.Wp.{Heap, Calls, Loops, WpFn, Tables}
+use prog.Wp.{Heap, Calls, Loops, WpFn}
 use ghost.Atoms.{Atoms}
 use contract.Monad.{Fun, fact}
 use contract.Lifetimes.{Lfts, Shares, toks}
-use contract.Running.{givenOf, tables, tablesOf}
+use contract.Running.{givenOf}
 use types.Kit.{Given, ‵, raw, some, later, _⊛_, _$_, _∵_, !, qed, by, move, ⋆, keep, drop, use1, use2, split, join, pick, rewrite, fsplit, fsplit3, fjoin, fjoin3, feqI, suffices, frame, await, done}
 use types.Run.{look, look-raw, init, store-raw, forget, stop, hop, fld, from, load, addr, of-opd, and-then, no-more, assigns, land, returns, enter, alloc1, alloc0, params1, pass1, pass0, free1, free0}
 use types.Part.{whole, sub, look-in}
 use types.SemTy.{Body}
-use sound.WpLaws.{FmC, fmOf, WpFn-mono}
+use sound.WpLaws.{FmC}
 use denote.RattleType.{owns}
 use denote.Laws.{Is, shows}
 use denote.Memory.{mem}
@@ -38,10 +38,9 @@ use denote.Exit.{yes}
 use denote.Triple.Statement.{Contract, Triple}
 use denote.Triple.Call.{calls-at}
 use denote.Triple.Entry.{onEntry}
-use denote.Triple.Spec.{Meets, tripleOf}
-use denote.Triple.Table.{entered, cited}
+use denote.Triple.Spec.{tripleOf}
 use denote.Triple.Clauses.{ensured, lasts}
-use denote.Triple.Walked.{says, Stays, stay-ref, stay-dropped, gave-ref, walkOf, AllGo, goes-dropped, goes-ref, goes-gave-ref, Walks, ends-at, walked, walk-meets}
+use denote.Triple.Walked.{says, Stays, stay-ref, stay-dropped, gave-ref, walkOf, AllGo, goes-dropped, goes-ref, goes-gave-ref, Walks, ends-at, walked}
 use Rattle.state.specs.declared.Scalars.{Scalars}
 use Rattle.state.specs.declared.Outcome.{Outcome}
 use Rattle.state.proofs.Scalars as T
@@ -50,7 +49,7 @@ use Rattle.state.proofs.Answer as E
 use Rattle.state.proofs.Answer.Laws as E′
 use Rattle.state.proofs.Outcome as O
 use Rattle.state.proofs.Outcome.Laws as O′
-use Rattle.lending.proofs.Lending.{Marks, Places, Inputs, Ten, Lent, rows, window, flag, valsOf, machsOf, Left, lasting, Says, mach, told, answer-is, scalars-are}
+use Rattle.lending.proofs.Lending.{by-walk, Marks, Places, Inputs, Ten, Lent, rows, window, flag, valsOf, machsOf, Left, lasting, Says, mach, told, answer-is, scalars-are}
 use Rattle.lending.proofs.tested_call as tested-call
 use Rattle.lending.proofs.tested_call.Symbol as tested-call-def
 use Rattle.lending.proofs.tested_call.Symbol.{name as #lent·tested-call}
@@ -193,18 +192,9 @@ module _ {M : Type 1} (𝓤 : URA M) (H : Heap 𝓤) (A : Atoms 𝓤) (W : Given
   all-go =
       (goes-ref 𝓤 H A W 9 0 tt (plain (λ _. T.the-row)), (goes-gave-ref 𝓤 H A W 9 1 tt (plain (λ _. Marks)), (goes-gave-ref 𝓤 H A W 9 2 tt (plain (λ _. Places)), (goes-gave-ref 𝓤 H A W 9 3 tt (plain (λ _. Places)), (goes-gave-ref 𝓤 H A W 9 4 tt (plain (λ _. Marks)), (goes-gave-ref 𝓤 H A W 9 5 tt (plain (λ _. Inputs)), (goes-gave-ref 𝓤 H A W 9 6 tt (plain (λ _. Ten)), (goes-gave-ref 𝓤 H A W 9 7 tt (plain (λ _. Ten)), (goes-dropped 𝓤 H A W 9 (shrSliceOf (8 ∷ []) tt (plain (λ _. u8))) yes (λ κs y f. refl), (goes-dropped 𝓤 H A W 9 (plain (λ _. Boolean)) yes (λ κs y f. refl), tt))))))))))
 
-meets : {M : Type 1} (𝓤 : URA M) (H : Heap 𝓤) (A : Atoms 𝓤) (W : Given 𝓤 H A) (at-mem : Memory → SProp 𝓤) (run : Routine → Fun 𝓤) (𝓣 : Tables 𝓤 H)
-    → Triple 𝓤 (𝓣 .C #lent·tested-call) (TestedCall 𝓤 H A at-mem run)
-    → Meets 𝓤 H A read-lent.signature (WpFn 𝓤 H (𝓣 .C) (𝓣 .Λ) code.function) (read-lent.spec 𝓤 H A at-mem run)
-meets 𝓤 H A W at-mem run 𝓣 known =
-    walk-meets 𝓤 H A read-lent.ended stayed W (all-go 𝓤 H A W at-mem run) (read-lent.clauses 𝓤 H A at-mem run)
-    (WpFn 𝓤 H (𝓣 .C) (𝓣 .Λ) code.function) (WpFn-mono 𝓤 H (W .laws) 𝓣 code.function)
-    (walks 𝓤 H A W at-mem run (𝓣 .C) (𝓣 .Λ) (fmOf 𝓤 H (W .laws) 𝓣) known)
-
 pub read-lent-spec : {M : Type 1} → stated.statement M
-unfolding code.routine tablesOf
+unfolding code.routine
 read-lent-spec 𝓤 H 𝓜 𝓖 𝓡 =
-    entered 𝓤 H (tripleOf 𝓤 H (𝓖 .A) read-lent.signature (read-lent.spec 𝓤 H (𝓖 .A) (𝓜 .mem) (𝓡 .run)))
-    (tables 𝓤 H 𝓜 𝓡 code.env .C) (tables 𝓤 H 𝓜 𝓡 code.env .Λ) #lent·read-lent code.function (code.unfolded 𝓤 H 𝓜 𝓡)
-    (meets 𝓤 H (𝓖 .A) (givenOf 𝓤 H 𝓜 𝓖) (𝓜 .mem) (𝓡 .run) (tablesOf 𝓤 H 𝓜 (tables 𝓤 H 𝓜 𝓡 code.env))
-    (cited 𝓤 H (TestedCall 𝓤 H (𝓖 .A) (𝓜 .mem) (𝓡 .run)) 𝓜 𝓡 code.env #lent·tested-call tested-call-def.routine code.calls-lending·tested-call (tested-call-thm.met 𝓤 H 𝓜 𝓖 𝓡)))
+    by-walk 𝓤 H 𝓜 𝓖 𝓡 code.env read-lent.ended stayed (read-lent.clauses 𝓤 H (𝓖 .A) (𝓜 .mem) (𝓡 .run)) #lent·read-lent code.function
+    (TestedCall 𝓤 H (𝓖 .A) (𝓜 .mem) (𝓡 .run)) #lent·tested-call tested-call-def.routine (all-go 𝓤 H (𝓖 .A) (givenOf 𝓤 H 𝓜 𝓖) (𝓜 .mem) (𝓡 .run))
+    (walks 𝓤 H (𝓖 .A) (givenOf 𝓤 H 𝓜 𝓖) (𝓜 .mem) (𝓡 .run)) (code.unfolded 𝓤 H 𝓜 𝓡) code.calls-lending·tested-call (tested-call-thm.met 𝓤 H 𝓜 𝓖 𝓡)

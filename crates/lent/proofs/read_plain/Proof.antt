@@ -12,17 +12,17 @@ use base.Logic.{SProp, ent, emp, via, fst∗, id⊢}
 use base.Fml.{GName, fat, flft, flent}
 use prog.Memory.{Memory}
 use prog.Routine.{Routine}
-use prog.Wp.{Heap, Calls, Loops, WpFn, Tables}
+use prog.Wp.{Heap, Calls, Loops, WpFn}
 use ghost.Atoms.{Atoms}
 use contract.Monad.{Fun, fact}
 use contract.Lifetimes.{Lfts, Shares, toks}
-use contract.Running.{givenOf, tables, tablesOf}
+use contract.Running.{givenOf}
 use types.Kit.{Given, ‵, raw, some, later, _⊛_, _$_, _∵_, !, qed, by, move, ⋆, keep, drop, use1, use2, use3, split, join, pick, rewrite, fsplit, fjoin, suffices, frame, await, done}
 use types.Tokens.{lft-new, lft-end}
 use types.Run.{look, init, forget, stop, hop, from, load, addr, of-opd, and-then, no-more, assigns, land, returns, enter, alloc1, alloc0, params1, pass1, pass0, free1, free0}
 use types.Part.{agg}
 use types.SemTy.{Body}
-use sound.WpLaws.{FmC, fmOf, WpFn-mono}
+use sound.WpLaws.{FmC}
 use denote.RattleType.{owns}
 use denote.Laws.{Is, shows}
 use denote.Memory.{mem, partAt}
@@ -39,10 +39,9 @@ use denote.Exit.{yes}
 use denote.Triple.Statement.{Contract, Triple}
 use denote.Triple.Call.{calls-at}
 use denote.Triple.Entry.{onEntry}
-use denote.Triple.Spec.{Meets, tripleOf}
-use denote.Triple.Table.{entered, cited}
+use denote.Triple.Spec.{tripleOf}
 use denote.Triple.Clauses.{ensured, lasts}
-use denote.Triple.Walked.{says, Stays, stay-dropped, gave-ref, walkOf, AllGo, goes-dropped, goes-gave-ref, Walks, ends-at, walked, walk-meets}
+use denote.Triple.Walked.{says, Stays, stay-dropped, gave-ref, walkOf, AllGo, goes-dropped, goes-gave-ref, Walks, ends-at, walked}
 use Rattle.state.specs.declared.Scalars.{Scalars}
 use Rattle.state.specs.declared.Answer.{Answer}
 use Rattle.state.proofs.Scalars as T
@@ -51,7 +50,7 @@ use Rattle.state.proofs.Answer as E
 use Rattle.state.proofs.Answer.Laws as E′
 use Rattle.state.proofs.Outcome as O
 use Rattle.state.proofs.Outcome.Laws as O′
-use Rattle.lending.proofs.Lending.{Marks, Places, Inputs, Ten, Lent, rows, window, flag, valsOf, machsOf, Left, lasting, Says, mach, outcome, gave, answer-told, outcome-is, cell-in, cell-out}
+use Rattle.lending.proofs.Lending.{by-walk, Marks, Places, Inputs, Ten, Lent, rows, window, flag, valsOf, machsOf, Left, lasting, Says, mach, outcome, gave, answer-told, outcome-is, cell-in, cell-out}
 use Rattle.lending.proofs.read_lent as read-lent
 use Rattle.lending.proofs.read_lent.Symbol as read-lent-def
 use Rattle.lending.proofs.read_lent.Symbol.{name as #lent·read-lent}
@@ -136,16 +135,11 @@ module _ {M : Type 1} (𝓤 : URA M) (H : Heap 𝓤) (A : Atoms 𝓤) (W : Given
         move ! (2 ∷ 47 ∷ []) $ join ! $ move ! (1 ∷ 46 ∷ []) $ fjoin ! $ move ! (1 ∷ 0 ∷ []) $
         use2 W (raw (ReadLent 𝓤 H A at-mem run .pre (to α l11 δ))) (goes α l11 δ) $
         calls-at ! fm (ReadLent 𝓤 H A at-mem run) known (to α l11 δ)
-        (and-then ! (load ! (from ! (stop !)) (look ! 18 refl))
-        (and-then ! (load ! (from ! (stop !)) (look ! 16 refl))
-        (and-then ! (load ! (from ! (stop !)) (look ! 14 refl))
-        (and-then ! (load ! (from ! (stop !)) (look ! 12 refl))
-        (and-then ! (load ! (from ! (stop !)) (look ! 10 refl))
-        (and-then ! (load ! (from ! (stop !)) (look ! 8 refl))
-        (and-then ! (load ! (from ! (stop !)) (look ! 6 refl))
-        (and-then ! (load ! (from ! (stop !)) (look ! 4 refl))
-        (and-then ! (load ! (from ! (stop !)) (look ! 25 refl))
-        (and-then ! (load ! (from ! (stop !)) (look ! 23 refl)) (no-more !))))))))))) (λ v.
+        (and-then ! (load ! (from ! (stop !)) (look ! 18 refl)) (and-then ! (load ! (from ! (stop !)) (look ! 16 refl))
+        (and-then ! (load ! (from ! (stop !)) (look ! 14 refl)) (and-then ! (load ! (from ! (stop !)) (look ! 12 refl))
+        (and-then ! (load ! (from ! (stop !)) (look ! 10 refl)) (and-then ! (load ! (from ! (stop !)) (look ! 8 refl))
+        (and-then ! (load ! (from ! (stop !)) (look ! 6 refl)) (and-then ! (load ! (from ! (stop !)) (look ! 4 refl))
+        (and-then ! (load ! (from ! (stop !)) (look ! 25 refl)) (and-then ! (load ! (from ! (stop !)) (look ! 23 refl)) (no-more !))))))))))) (λ v.
         use1 W (later (some (λ (r : Answer). ((‵ (flft (α ∷ []) fullShare) ⊛ raw (toks 𝓤 A 8 κs qs)) ⊛ ‵ (E.the-row .own r (v ∷ []))) ⊛
         raw (ensured 𝓤 H A read-lent.ended (read-lent.clauses 𝓤 H A at-mem run) (α ∷ [], κs) (lent-at l11 δ, a) tt r)))) (id⊢ 𝓤 _) $ await ! tt $ pick ! (λ r.
         split ! $ move ! (1 ∷ []) $ use1 W (some (λ (zs : Scalars × Left).
@@ -191,18 +185,9 @@ module _ {M : Type 1} (𝓤 : URA M) (H : Heap 𝓤) (A : Atoms 𝓤) (W : Given
   all-go =
       (goes-dropped 𝓤 H A W 8 (plain (λ _. T.the-row)) yes (λ κs y f. refl), (goes-gave-ref 𝓤 H A W 8 0 tt (plain (λ _. Marks)), (goes-gave-ref 𝓤 H A W 8 1 tt (plain (λ _. Places)), (goes-gave-ref 𝓤 H A W 8 2 tt (plain (λ _. Places)), (goes-gave-ref 𝓤 H A W 8 3 tt (plain (λ _. Marks)), (goes-gave-ref 𝓤 H A W 8 4 tt (plain (λ _. Inputs)), (goes-gave-ref 𝓤 H A W 8 5 tt (plain (λ _. Ten)), (goes-gave-ref 𝓤 H A W 8 6 tt (plain (λ _. Ten)), (goes-dropped 𝓤 H A W 8 (shrSliceOf (7 ∷ []) tt (plain (λ _. u8))) yes (λ κs y f. refl), (goes-dropped 𝓤 H A W 8 (plain (λ _. Boolean)) yes (λ κs y f. refl), tt))))))))))
 
-meets : {M : Type 1} (𝓤 : URA M) (H : Heap 𝓤) (A : Atoms 𝓤) (W : Given 𝓤 H A) (at-mem : Memory → SProp 𝓤) (run : Routine → Fun 𝓤) (𝓣 : Tables 𝓤 H)
-    → Triple 𝓤 (𝓣 .C #lent·read-lent) (ReadLent 𝓤 H A at-mem run)
-    → Meets 𝓤 H A read-plain.signature (WpFn 𝓤 H (𝓣 .C) (𝓣 .Λ) code.function) (read-plain.spec 𝓤 H A at-mem run)
-meets 𝓤 H A W at-mem run 𝓣 known =
-    walk-meets 𝓤 H A read-plain.ended stayed W (all-go 𝓤 H A W at-mem run) (read-plain.clauses 𝓤 H A at-mem run)
-    (WpFn 𝓤 H (𝓣 .C) (𝓣 .Λ) code.function) (WpFn-mono 𝓤 H (W .laws) 𝓣 code.function)
-    (walks 𝓤 H A W at-mem run (𝓣 .C) (𝓣 .Λ) (fmOf 𝓤 H (W .laws) 𝓣) known)
-
 pub read-plain-spec : {M : Type 1} → stated.statement M
-unfolding code.routine tablesOf
+unfolding code.routine
 read-plain-spec 𝓤 H 𝓜 𝓖 𝓡 =
-    entered 𝓤 H (tripleOf 𝓤 H (𝓖 .A) read-plain.signature (read-plain.spec 𝓤 H (𝓖 .A) (𝓜 .mem) (𝓡 .run)))
-    (tables 𝓤 H 𝓜 𝓡 code.env .C) (tables 𝓤 H 𝓜 𝓡 code.env .Λ) #lent·read-plain code.function (code.unfolded 𝓤 H 𝓜 𝓡)
-    (meets 𝓤 H (𝓖 .A) (givenOf 𝓤 H 𝓜 𝓖) (𝓜 .mem) (𝓡 .run) (tablesOf 𝓤 H 𝓜 (tables 𝓤 H 𝓜 𝓡 code.env))
-    (cited 𝓤 H (ReadLent 𝓤 H (𝓖 .A) (𝓜 .mem) (𝓡 .run)) 𝓜 𝓡 code.env #lent·read-lent read-lent-def.routine code.calls-lending·read-lent (read-lent-thm.met 𝓤 H 𝓜 𝓖 𝓡)))
+    by-walk 𝓤 H 𝓜 𝓖 𝓡 code.env read-plain.ended stayed (read-plain.clauses 𝓤 H (𝓖 .A) (𝓜 .mem) (𝓡 .run)) #lent·read-plain code.function
+    (ReadLent 𝓤 H (𝓖 .A) (𝓜 .mem) (𝓡 .run)) #lent·read-lent read-lent-def.routine (all-go 𝓤 H (𝓖 .A) (givenOf 𝓤 H 𝓜 𝓖) (𝓜 .mem) (𝓡 .run))
+    (walks 𝓤 H (𝓖 .A) (givenOf 𝓤 H 𝓜 𝓖) (𝓜 .mem) (𝓡 .run)) (code.unfolded 𝓤 H 𝓜 𝓡) code.calls-lending·read-lent (read-lent-thm.met 𝓤 H 𝓜 𝓖 𝓡)
