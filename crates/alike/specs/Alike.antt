@@ -29,12 +29,14 @@ sameMark a b i = eqb (getD a i 0) (getD b i 0)
 abbrev pub sameNumber : List ℤ → List ℤ → ℕ → Bool
 sameNumber a b i = sameInt (getD a i (pos 0)) (getD b i (pos 0))
 
-abbrev pub sameEntries : Entries → Entries → Bool
-sameEntries a b =
-    every 128 (sameMark (a .marks) (b .marks))
-    && (every 128 (sameNumber (a .xs) (b .xs))
-    && (every 128 (sameNumber (a .ys) (b .ys))
-    && (every 128 (sameMark (a .held) (b .held)) && every 1280 (sameNumber (a .inputs) (b .inputs)))))
+unfoldable pub sameInputs : Entries → Entries → Bool
+sameInputs a b = every 128 (sameMark (a .held) (b .held)) && every 1280 (sameNumber (a .inputs) (b .inputs))
+
+unfoldable pub samePositions : Entries → Entries → Bool
+samePositions a b = every 128 (sameNumber (a .xs) (b .xs)) && every 128 (sameNumber (a .ys) (b .ys))
+
+unfoldable pub sameEntries : Entries → Entries → Bool
+sameEntries a b = every 128 (sameMark (a .marks) (b .marks)) && (samePositions a b && sameInputs a b)
 
 abbrev pub sameFlag : Bool → Bool → Bool
 sameFlag true b = b
@@ -106,7 +108,7 @@ pendingOf b cid =
     cond (eqb b 1) (pendings.Is (kinds.PlayerDiff cid))
     (cond (eqb b 2) (pendings.Is (kinds.PlayerNew cid)) (cond (eqb b 3) (pendings.Is kinds.Ex) pendings.NoKind))
 
-abbrev pub scalarsIn : List ℕ → Scalars
+unfoldable pub scalarsIn : List ℕ → Scalars
 scalarsIn s =
     record {
       version = versionIn (getD s 0 0);
@@ -127,7 +129,7 @@ abbrev pub numberAt : Entries → ℕ → ℕ → ℕ → ℤ → Entries
 numberAt e c mark k n =
     cond (ltb c 128) (cond (ltb k 10) (entriesWith (e .marks) (e .xs) (e .ys) (set (e .held) c mark) (set (e .inputs) (10 * c + k) n)) e) e
 
-abbrev pub entriesIn : List ℕ → Entries
+unfoldable pub entriesIn : List ℕ → Entries
 entriesIn s =
     numberAt (playerAt noEntries (getD s 0 0) (getD s 1 0) (numberOf (getD s 2 0)) (numberOf (getD s 3 0)))
     (getD s 0 0) (getD s 4 0) (getD s 5 0) (numberOf (getD s 6 0))

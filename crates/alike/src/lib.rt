@@ -8,6 +8,8 @@ ghost use Rattle.state.specs.State.{sameInt, every, noEntries};
 ghost use Rattle.alike.specs.Alike.{
   sameMark,
   sameNumber,
+  sameInputs,
+  samePositions,
   sameEntries,
   sameFlag,
   isSecond,
@@ -82,21 +84,30 @@ fn same_numbers<'a>(a: &'a [i32], b: &'a [i32], n: usize) -> bool
     all
 }
 
+fn same_inputs(a: Entries, b: Entries) -> bool
+    ensures { λ r. ⌜ r ≡ sameInputs a b ⌝ }
+{
+    good::both(
+        same_marks(&a.held, &b.held),
+        same_numbers(&a.inputs, &b.inputs, 1280),
+    )
+}
+
+fn same_positions(a: Entries, b: Entries) -> bool
+    ensures { λ r. ⌜ r ≡ samePositions a b ⌝ }
+{
+    good::both(
+        same_numbers(&a.xs, &b.xs, 128),
+        same_numbers(&a.ys, &b.ys, 128),
+    )
+}
+
 pub fn same_entries(a: Entries, b: Entries) -> bool
     ensures { λ r. ⌜ r ≡ sameEntries a b ⌝ }
 {
     good::both(
         same_marks(&a.marks, &b.marks),
-        good::both(
-            same_numbers(&a.xs, &b.xs, 128),
-            good::both(
-                same_numbers(&a.ys, &b.ys, 128),
-                good::both(
-                    same_marks(&a.held, &b.held),
-                    same_numbers(&a.inputs, &b.inputs, 1280),
-                ),
-            ),
-        ),
+        good::both(same_positions(a, b), same_inputs(a, b)),
     )
 }
 

@@ -315,13 +315,18 @@ fn version_of(b: u8) -> Version {
     if b == 1 { Version::V1 } else { Version::V2 }
 }
 
+// The answer with the flag on.
+fn answer_on(version: Version, w: &[u8]) -> CallAnswer {
+    let call = records::record_call(version, w, true);
+    let answer = call.answer;
+    answer
+}
+
 fn call_twice(version: Version, w: &[u8]) {
     let off = records::record_call(version, w, false);
-    let on = records::record_call(version, w, true);
-    let a = off.answer;
-    let b = on.answer;
+    let answer = off.answer;
     print_call(w, off);
-    if !flag_agrees(a, b) {
+    if !flag_agrees(answer, answer_on(version, w)) {
         say(b"the flag changes the answer\n");
     }
 }

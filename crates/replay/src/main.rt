@@ -12,6 +12,7 @@ use libc::STDOUT_FILENO;
 use lines::Ending;
 use packer::Part;
 use refusal::Refusal;
+use replayer::Turned;
 use state::Reader;
 use varint::Wrote;
 
@@ -66,18 +67,22 @@ fn read_on(buf: &mut [u8], hand: Hand) -> Fed {
     }
 }
 
+fn left_after(turned: Turned, hand: Hand, goes: bool) -> Left {
+    let reader = turned.reader;
+    Left {
+        reader,
+        hand: feed::pass(hand, turned.used),
+        goes,
+        wants: turned.wants,
+    }
+}
+
 // A turn on the bytes at hand, and its text.
 fn one_turn(left: Left, buf: &[u8], rows: &mut [i32], tens: &mut [i32], out: &mut [u8]) -> Left {
     let reader = left.reader;
     let hand = left.hand;
     let turned = replayer::turn(reader, feed::window(buf, hand), hand.ended, rows, tens, out);
-    let next = turned.reader;
-    Left {
-        reader: next,
-        hand: feed::pass(hand, turned.used),
-        goes: goes_on(out, turned.filled, turned.ended),
-        wants: turned.wants,
-    }
+    left_after(turned, hand, goes_on(out, turned.filled, turned.ended))
 }
 
 // A read, where more bytes are wanted.

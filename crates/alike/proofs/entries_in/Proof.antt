@@ -4,6 +4,7 @@ use lib.IntN.{ℤ}
 use mathlib.Core.Path.{_≡_}
 use mir.Syntax.{w32}
 use mir.Val.{toZ, ofZ}
+use Rattle.alike.specs.Alike.{entriesIn}
 use Rattle.alike.proofs.entries_in.Statement.{statement}
 use Rattle.alike.proofs.entries_in.Tie as tie
 
@@ -12,6 +13,7 @@ abbrev back : ℤ → Type 0
 back z = toZ w32 (ofZ w32 z) ≡ z
 
 returns : tie.Need-returns
+unfolding entriesIn
 returns c =
     let n = c .before .number3 in
     let y = c .before .before .before .before .number2 in

@@ -4,6 +4,7 @@ use lib.IntN.{ℤ}
 use mathlib.Core.Path.{_≡_}
 use mir.Syntax.{w32}
 use mir.Val.{toZ, ofZ}
+use Rattle.alike.specs.Alike.{scalarsIn}
 use Rattle.alike.proofs.scalars_in.Statement.{statement}
 use Rattle.alike.proofs.scalars_in.Tie as tie
 
@@ -12,6 +13,7 @@ abbrev back : ℤ → Type 0
 back z = toZ w32 (ofZ w32 z) ≡ z
 
 returns : tie.Need-returns
+unfolding scalarsIn
 returns c =
     let tick = c .before .before .before .before .before .before .before .before .number in
     let largest = c .before .before .before .before .before .number2 in
