@@ -155,6 +155,5 @@ module _ (s : Scalars) (m : Memory) (w : List ℕ) (last : Bool) (sound : Sound 
           → EventPut (eventIs v) n (flag (isPending (s .pending))) count (m' .input) (m' .former) rows₁ tens₁ rows₂ tens₂
           → Behind run (calls k (readerOf (o .scalars) m') (drop n w) last) (count + 1) (used + n) rows₀ tens₀ rows₂ tens₂
       goes-on {count = count} {rows₁ = rows₁} {tens₁ = tens₁} k rows₂ tens₂ room b p =
-          let x : count < length rows₁ / 8 = omega (arith, room .rows) in
-          let y : count < length tens₁ / 20 = omega (arith, room .tens) in
-          rw (p .rows ∙ placed 8 count _ rows₁ x, p .tens ∙ placed 20 count _ tens₁ y, ← row-is, ← tens-are) (one-more seen _ (rw (by-said k _ (given .said)) at b))
+          let f = placed (omega (arith, room .rows, room .tens)) p in
+          rw (f .rows, f .tens, ← row-is, ← tens-are) (one-more seen _ (rw (by-said k _ (given .said)) at b))

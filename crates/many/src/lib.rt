@@ -1,7 +1,6 @@
 // Many reading calls in one: the events as rows of numbers in lent memory.
 ghost use mathlib.Core.Path.{_≡_};
 ghost use mathlib.Core.Bool.{true};
-ghost use Prim.Native.Nat.{_/_, min};
 ghost use Rattle.state.specs.State.{entriesWith, readerWith, goodReader};
 ghost use Rattle.state.specs.Laws.{Sound};
 ghost use Rattle.calls.specs.Along.{calls};
@@ -47,15 +46,6 @@ fn stopped(stop: Stop, count: usize, used: usize, scalars: Scalars) -> RowsRead
         used,
         scalars,
     }
-}
-
-// How many events there is room for.
-fn room_for(rows: usize, tens: usize) -> usize
-    ensures { λ r. ⌜ r ≡ min (rows / 8) (tens / 20) ⌝ }
-{
-    let a = rows / 8;
-    let b = tens / 20;
-    if a < b { a } else { b }
 }
 
 // Calls on lent entries while there is room and they give events. What input and former hold before is never seen.
@@ -199,6 +189,6 @@ pub fn read_many(
     if scalars.closed {
         return unread(Stop::Refused(Refusal::Closed), reader);
     }
-    let free = room_for(rows.len(), tens.len());
+    let free = rows::room_for(rows.len(), tens.len());
     read_good(scalars, entries, window, last, rows, tens, free)
 }

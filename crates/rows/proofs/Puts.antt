@@ -1,16 +1,16 @@
 -- Numbers in their place of a lent memory. Assumes nothing.
-use Prim.Native.Nat.{ℕ, suc, _+_, _*_, _/_, _≤_, _<_}
+use Prim.Native.Nat.{ℕ, suc, _+_, _≤_, _<_}
 use mathlib.Core.Path.{_≡_, refl, sym, ap, _∙_}
 use mathlib.Core.List.{List, [], _∷_, _++_, append-assoc}
 use native.Mathlib.Omega.{arith}
 use lib.ListN.{length, take, drop, set, take-append-drop, length-append, length-take, length-drop}
-use lib.Dec.{ltb}
 use lib.Seq.{sets-eq, paste, take-all, take-at, drop-at, drop-drop}
-use lib.IntN.{ℤ}
+use lib.IntN.{ℤ, pos}
 use borrow.Author.Tests.{lt-ltb, le-ltb}
-use Rattle.num.proofs.Cases.{by-bool}
-use Rattle.rows.specs.Rows.{put}
-use Rattle.rows.specs.steps.Stores.{place}
+use Rattle.num.specs.Wrap.{wrap32}
+use Rattle.state.specs.Reading.{Event}
+use Rattle.rows.specs.Rows.{put, room}
+use Rattle.rows.specs.steps.Stores.{Filled, EventPut}
 
 pub put-length : (l : List ℤ) (at : ℕ) (ns : List ℤ) → at + length ns ≤ length l → length (put l at ns) ≡ length l
 unfolding put
@@ -22,16 +22,23 @@ put-none l at =
     let e : at + 0 ≡ at = omega arith in
     rw e (take-append-drop at l)
 
--- a block, where there is room for it
-pub placed : (k i : ℕ) (ns mem : List ℤ) → i < length mem / k → place k i ns mem ≡ put mem (k * i) ns
-placed k i ns mem h = rw (lt-ltb i (length mem / k) h)
+-- event i, where there is room for it
+pub placed : {e : Event} {used : ℕ} {pending : ℤ} {i : ℕ} {ten former rows₀ tens₀ rows₁ tens₁ : List ℤ} → i < room rows₀ tens₀
+    → EventPut e used pending i ten former rows₀ tens₀ rows₁ tens₁ → Filled e (wrap32 (pos used)) pending i ten former rows₀ tens₀ rows₁ tens₁
+placed {i = i} {rows₀ = rows₀} {tens₀ = tens₀} h p =
+    let t = lt-ltb i (room rows₀ tens₀) h in
+    record { rows = rw t at (p .rows); tens = rw t at (p .tens) }
 
-pub not-placed : (k i : ℕ) (ns mem : List ℤ) → length mem / k ≤ i → place k i ns mem ≡ mem
-not-placed k i ns mem h = rw (le-ltb i (length mem / k) h)
+pub fits : {e : Event} {used : ℕ} {pending : ℤ} {i : ℕ} {ten former rows₀ tens₀ rows₁ tens₁ : List ℤ} → i < room rows₀ tens₀
+    → Filled e (wrap32 (pos used)) pending i ten former rows₀ tens₀ rows₁ tens₁ → EventPut e used pending i ten former rows₀ tens₀ rows₁ tens₁
+fits {i = i} {rows₀ = rows₀} {tens₀ = tens₀} h f =
+    let t = lt-ltb i (room rows₀ tens₀) h in
+    record { rows = rw t (f .rows); tens = rw t (f .tens) }
 
-pub place-none : (k i : ℕ) (mem : List ℤ) → place k i [] mem ≡ mem
-place-none k i mem =
-    by-bool (ltb i (length mem / k)) (λ t. rw t (put-none mem (k * i))) (λ t. rw t)
+-- where there is none
+pub no-room : {e : Event} {used : ℕ} {pending : ℤ} {i : ℕ} {ten former rows tens : List ℤ} → room rows tens ≤ i
+    → EventPut e used pending i ten former rows tens rows tens
+no-room {i = i} {rows = rows} {tens = tens} h = let t = le-ltb i (room rows tens) h in record { rows = rw t; tens = rw t }
 
 -- the numbers with what stands before them, then the rest
 apart : (l : List ℤ) (at n : ℕ) (ns : List ℤ) → length ns ≡ n → (take at l ++ ns) ++ drop (at + n) l ≡ put l at ns

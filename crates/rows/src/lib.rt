@@ -1,7 +1,7 @@
 // Rows of numbers that tell of events, in lent memory.
 ghost use mathlib.Core.Path.{_≡_};
 ghost use mathlib.Core.List.{[], _∷_, _++_};
-ghost use Prim.Native.Nat.{_+_, _≤_};
+ghost use Prim.Native.Nat.{_+_, _*_, _/_, _≤_, min};
 ghost use lib.ListN.{length};
 ghost use lib.IntN.{pos};
 ghost use Rattle.num.specs.Wrap.{wrap32};
@@ -10,7 +10,7 @@ ghost use Rattle.state.specs.Reading.{other};
 ghost use Rattle.state.specs.Views.{eventIs};
 ghost use Rattle.calls.specs.Calls.{isPending};
 ghost use Rattle.rows.specs.Rows.{flag, eventRow, put};
-ghost use Rattle.rows.specs.steps.Stores.{place, EventPut};
+ghost use Rattle.rows.specs.steps.Stores.{Filled, EventPut};
 use item::Item;
 use kinds::Cid;
 use state::Event;
@@ -41,7 +41,16 @@ pub fn pending_flag(s: Scalars) -> i32
     1
 }
 
-// Row i, if there is room for it.
+// How many events there is room for.
+pub fn room_for(rows: usize, tens: usize) -> usize
+    ensures { λ r. ⌜ r ≡ min (rows / 8) (tens / 20) ⌝ }
+{
+    let a = rows / 8;
+    let b = tens / 20;
+    if a < b { a } else { b }
+}
+
+// Row i.
 fn put_row(
     rows: &mut [i32],
     i: usize,
@@ -53,11 +62,9 @@ fn put_row(
     d: i32,
     e: i32,
 )
-    ensures { λ _. ⌜ now (rows .exit) ≡ place 8 i (event ∷ used ∷ a ∷ b ∷ c ∷ d ∷ e ∷ pos 0 ∷ []) (now (rows .entry)) ⌝ }
+    requires { ⌜ 8 * i + 8 ≤ length (now rows) ⌝ }
+    ensures { λ _. ⌜ now (rows .exit) ≡ put (now (rows .entry)) (8 * i) (event ∷ used ∷ a ∷ b ∷ c ∷ d ∷ e ∷ pos 0 ∷ []) ⌝ }
 {
-    if rows.len() / 8 <= i {
-        return;
-    }
     let at = 8 * i;
     rows[at] = event;
     rows[at + 1] = used;
@@ -71,7 +78,8 @@ fn put_row(
 
 // The row of a record that changes no entry.
 fn put_record(item: Item, used: i32, pending: i32, rows: &mut [i32], i: usize)
-    ensures { λ _. ⌜ now (rows .exit) ≡ place 8 i (eventRow (other (itemOf item)) used pending) (now (rows .entry)) ⌝ }
+    requires { ⌜ 8 * i + 8 ≤ length (now rows) ⌝ }
+    ensures { λ _. ⌜ now (rows .exit) ≡ put (now (rows .entry)) (8 * i) (eventRow (other (itemOf item)) used pending) ⌝ }
 {
     let kind = item.kind_number();
     match item.cid() {
@@ -92,22 +100,20 @@ fn put_ten(tens: &mut [i32], at: usize, ten: [i32; 10])
     }
 }
 
-// The ten numbers and the former ten of input i, if there is room for them.
+// The ten numbers and the former ten of input i.
 fn put_tens(tens: &mut [i32], i: usize, input: [i32; 10], former: [i32; 10])
-    ensures { λ _. ⌜ now (tens .exit) ≡ place 20 i (input ++ former) (now (tens .entry)) ⌝ }
+    requires { ⌜ 20 * i + 20 ≤ length (now tens) ⌝ }
+    ensures { λ _. ⌜ now (tens .exit) ≡ put (now (tens .entry)) (20 * i) (input ++ former) ⌝ }
 {
-    if tens.len() / 20 <= i {
-        return;
-    }
     let at = 20 * i;
     put_ten(tens, at, input);
     put_ten(tens, at + 10, former);
 }
 
-// Event i in its places, if there is room for it; its call used so many bytes; pending is a number of its row.
-pub fn put_event(
+// Event i in its places; n is the number of bytes that its call used.
+fn fill(
     event: Event,
-    used: usize,
+    n: i32,
     pending: i32,
     i: usize,
     rows: &mut [i32],
@@ -115,9 +121,9 @@ pub fn put_event(
     input: &[i32; 10],
     former: &[i32; 10],
 )
-    ensures { λ _. ⌜ EventPut (eventIs event) used pending i (now (input .entry)) (now (former .entry)) (now (rows .entry)) (now (tens .entry)) (now (rows .exit)) (now (tens .exit)) ⌝ }
+    requires { ⌜ (8 * i + 8 ≤ length (now rows)) × (20 * i + 20 ≤ length (now tens)) ⌝ }
+    ensures { λ _. ⌜ Filled (eventIs event) n pending i (now (input .entry)) (now (former .entry)) (now (rows .entry)) (now (tens .entry)) (now (rows .exit)) (now (tens .exit)) ⌝ }
 {
-    let n = wrapped(used);
     match event {
         Event::TickStart(t) => put_row(rows, i, 1, n, t, 0, 0, 0, 0),
         Event::TickEnd(t) => put_row(rows, i, 2, n, t, 0, 0, 0, 0),
@@ -136,4 +142,23 @@ pub fn put_event(
         }
         Event::Record(item) => put_record(item, n, pending, rows, i),
     }
+}
+
+// Event i in its places, if there is room for it; its call used so many bytes; pending is a number of its row.
+pub fn put_event(
+    event: Event,
+    used: usize,
+    pending: i32,
+    i: usize,
+    rows: &mut [i32],
+    tens: &mut [i32],
+    input: &[i32; 10],
+    former: &[i32; 10],
+)
+    ensures { λ _. ⌜ EventPut (eventIs event) used pending i (now (input .entry)) (now (former .entry)) (now (rows .entry)) (now (tens .entry)) (now (rows .exit)) (now (tens .exit)) ⌝ }
+{
+    if room_for(rows.len(), tens.len()) <= i {
+        return;
+    }
+    fill(event, wrapped(used), pending, i, rows, tens, input, former);
 }

@@ -1,5 +1,5 @@
 -- What the functions store, and what stands in rows of an event that was seen.
-use Prim.Native.Nat.{ℕ, suc, _*_, _/_}
+use Prim.Native.Nat.{ℕ, suc, _*_}
 use mathlib.Core.Path.{_≡_}
 use mathlib.Core.Bool.{cond}
 use mathlib.Core.List.{List, [], _∷_}
@@ -9,16 +9,17 @@ use lib.IntN.{ℤ, pos}
 use Rattle.num.specs.Wrap.{wrap32}
 use Rattle.state.specs.Reading.{Event}
 use Rattle.calls.specs.Calls.{Seen}
-use Rattle.rows.specs.Rows.{eventRow, rowOf, eventTens, tensOf, put}
+use Rattle.rows.specs.Rows.{eventRow, rowOf, eventTens, tensOf, put, room}
 
--- block i of a memory of blocks of k numbers, if it has so many
-abbrev pub place : ℕ → ℕ → List ℤ → List ℤ → List ℤ
-place k i ns mem = cond (ltb i (length mem / k)) (put mem (k * i) ns) mem
+-- event i is in its places; the row has n for the bytes that its call used
+pub record Filled (e : Event) (n pending : ℤ) (i : ℕ) (ten former rows₀ tens₀ rows₁ tens₁ : List ℤ) : Type 0 where
+  pub rows : rows₁ ≡ put rows₀ (8 * i) (eventRow e n pending)
+  pub tens : tens₁ ≡ put tens₀ (20 * i) (eventTens e ten former)
 
--- event i, whose call used so many bytes, is in its places
+-- event i, whose call used so many bytes, is in its places if there is room for it
 pub record EventPut (e : Event) (used : ℕ) (pending : ℤ) (i : ℕ) (ten former rows₀ tens₀ rows₁ tens₁ : List ℤ) : Type 0 where
-  pub rows : rows₁ ≡ place 8 i (eventRow e (wrap32 (pos used)) pending) rows₀
-  pub tens : tens₁ ≡ place 20 i (eventTens e ten former) tens₀
+  pub rows : rows₁ ≡ cond (ltb i (room rows₀ tens₀)) (put rows₀ (8 * i) (eventRow e (wrap32 (pos used)) pending)) rows₀
+  pub tens : tens₁ ≡ cond (ltb i (room rows₀ tens₀)) (put tens₀ (20 * i) (eventTens e ten former)) tens₀
 
 -- row i tells of an event that was seen, and so do its twenty numbers
 pub record InRow (x : Seen) (i : ℕ) (rows tens : List ℤ) : Type 0 where
