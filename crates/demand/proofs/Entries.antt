@@ -13,7 +13,7 @@ use Rattle.state.specs.State.{sameInt, present, xOf, yOf, withPlayer, moved, ho
 use Rattle.state.specs.Laws.{Sizes}
 use Rattle.state.specs.declared.Entries.{Entries}
 use Rattle.back.specs.Back.{sameAll, presentAt, formerInput}
-use Rattle.demand.specs.Demand.{players}
+use Rattle.demand.specs.Events.{players}
 use Rattle.demand.proofs.Tests.{and-true, same-refl, same-true, same-all-refl, every-at, blank}
 use Rattle.demand.proofs.Ten.{ten-zeros, ten-put, put-back}
 

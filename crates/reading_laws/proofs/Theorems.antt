@@ -24,7 +24,7 @@ use Rattle.state.proofs.Acts.{read-acts}
 use Rattle.state.proofs.ByActs.{calls-by-acts}
 use Rattle.reader.specs.Answers.{saidWith}
 use Rattle.reader.specs.declared.ReadAnswer.{ReadAnswer}
-use Rattle.back.specs.Back.{undoOf, stepBack}
+use Rattle.back.specs.Back.{stepBack}
 use Rattle.reading_laws.specs.Causes.{Open, Cause, WantsMore}
 use Rattle.reading_laws.specs.Causes as cause
 use Rattle.reading_laws.specs.Laws.{RefusalsHaveCauses, MoreIsWanted, ReadDetermined, BackWithoutArguments}
@@ -158,15 +158,12 @@ read-determined r w last a b ha hb =
 
 -- ---- stepping back
 
-undo-slim : (e : Event) (ten former : List ℤ) → undoOf e ten former ≡ undoOf (slim e) ten former
-undo-slim (tickStart u) ten former = refl
-undo-slim (tickEnd u) ten former = refl
-undo-slim (playerNew c a b) ten former = refl
-undo-slim (playerChange c a b old-x old-y) ten former = refl
-undo-slim (playerOld c a b) ten former = refl
-undo-slim (input c had) ten former = refl
-undo-slim (other r) ten former = refl
-
 pub back-without-arguments : BackWithoutArguments
 unfolding stepBack
-back-without-arguments b e ten former = rw (undo-slim e ten former)
+back-without-arguments b (tickStart u) ten former = refl
+back-without-arguments b (tickEnd u) ten former = refl
+back-without-arguments b (playerNew c x y) ten former = refl
+back-without-arguments b (playerChange c x y old-x old-y) ten former = refl
+back-without-arguments b (playerOld c x y) ten former = refl
+back-without-arguments b (input c had) ten former = refl
+back-without-arguments b (other r) ten former = refl
