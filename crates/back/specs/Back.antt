@@ -51,7 +51,7 @@ abbrev pub ofClient : ℤ → (ℕ → Back) → Back
 ofClient (pos c) f = f c
 ofClient (negsuc c) f = refused NotLast
 
--- ---- an event of a client, taken off the entries in tick t; below 128 (present, holds)
+-- ---- an event of a client, taken off the entries in tick t; only clients below 128 can be present or hold inputs
 
 -- the client is at x, y, and its entry was another: none (PlayerNew), or at the old position (PlayerChange)
 abbrev pub presentAt : Entries → ℕ → ℤ → ℤ → Bool

@@ -9,7 +9,8 @@ use lib.Seq.{getD-set-same, set-getD, set-set}
 use lib.Dec.{ltb, eqb}
 use lib.IntN.{ℤ, pos}
 use borrow.Author.Tests.{eqb-true, lt-ltb}
-use Rattle.state.specs.State.{sameInt, present, xOf, yOf, withPlayer, moved, holds, tenOf, putTen, withInput, goodPlayer, goodPlayers, tenZeros, goodInput, goodInputs, goodEntries}
+use Rattle.state.specs.State.{sameInt, present, xOf, yOf, withPlayer, moved, holds, tenOf, putTen, withInput, goodPlayers, tenZeros, goodInputs, goodEntries}
+use Rattle.state.specs.steps.Parts.{goodPlayer, goodInput}
 use Rattle.state.specs.Laws.{Sizes}
 use Rattle.state.specs.declared.Entries.{Entries}
 use Rattle.back.specs.Back.{sameAll, presentAt, formerInput}

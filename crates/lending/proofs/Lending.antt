@@ -28,9 +28,11 @@ use denote.Steps.{owned}
 use denote.Struct.Steps.{spelt}
 use denote.Struct.Laws as LL
 use denote.Enum.Laws as EL
-use Rattle.state.specs.State.{Memory, memory}
+use Rattle.state.specs.State.{Memory}
 use Rattle.state.specs.Reading.{stepOf, callOn}
-use Rattle.state.specs.Views.{saidIs, slimStep}
+use Rattle.state.specs.Views.{saidIs}
+use Rattle.state.specs.Slim.{slimStep}
+use Rattle.state.specs.steps.Inside.{memory}
 use Rattle.state.specs.declared.Scalars.{Scalars}
 use Rattle.state.specs.declared.Answer.{Answer}
 use Rattle.state.specs.declared.Outcome.{Outcome}

@@ -5,7 +5,7 @@ use lib.IntN.{ℤ, pos}
 use Rattle.item.specs.Contents.{tagNumber}
 use Rattle.kinds.specs.declared.Cid.{Cid}
 use Rattle.state.specs.Reading.{Event, tickStart, tickEnd, playerNew, playerChange, playerOld, input, other}
-use Rattle.state.specs.Views.{slim}
+use Rattle.state.specs.Slim.{slim}
 use Rattle.step.proofs.Others.{cid-own}
 use Rattle.rows.specs.Rows.{clientFlag, clientOr0, eight, eventRow, eventTens}
 

@@ -13,7 +13,7 @@ use Rattle.state.specs.State.{Memory, goodScalars, goodEntries, goodReader}
 use Rattle.state.specs.Reading.{Event, tickStart, tickEnd, playerNew, playerChange, playerOld, input, other, Step, stepOf, goodCall, memoryOf, readCall, readerAfter}
 use Rattle.state.specs.Acts.{BytesRunOut, Act, ReadAct}
 use Rattle.state.specs.Acts as act
-use Rattle.state.specs.Views.{slim}
+use Rattle.state.specs.Slim.{slim}
 use Rattle.state.specs.declared.Entries.{Entries}
 use Rattle.state.specs.declared.Reader.{Reader}
 use Rattle.state.specs.declared.Answer.{Answer}
