@@ -31,7 +31,8 @@ use Rattle.records.proofs.Beside.{own-record}
 use Rattle.state.specs.Sorts.{tagSort}
 use Rattle.state.specs.State.{Memory}
 use Rattle.state.specs.Reading.{Event, other, nextKind, openCall}
-use Rattle.state.specs.Views.{saidIs, slimSaid}
+use Rattle.state.specs.Views.{saidIs}
+use Rattle.state.specs.Slim.{slimSaid}
 use Rattle.state.specs.declared.Scalars.{Scalars}
 use Rattle.state.specs.declared.Event.the-variants as events
 use Rattle.state.specs.declared.Answer.{Answer}

@@ -13,10 +13,21 @@ use mir.Syntax.{w32}
 use mir.Val.{SFits, toZ, ofZ}
 use Rattle.refusal.specs.declared.Refusal.the-variants.{BadState, NotLast}
 use Rattle.state.specs.State.{sameInt, xOf, yOf, tenOf, withPlayer}
+use Rattle.state.specs.Reading.{
+  Event,
+  tickStart,
+  tickEnd,
+  playerNew,
+  playerChange,
+  playerOld,
+  input,
+  other,
+}
 use Rattle.state.specs.declared.Entries.{Entries}
 use Rattle.state.proofs.Numbers.{back, client-is}
 use Rattle.back.specs.Board.{board, goodBoard}
-use Rattle.back.specs.Back.{Back, was, refused, onlyIf, sameAll, unPresent, unOld, formerInput, unInput, Undo, takeOff, takeBack, steppedFrom}
+use Rattle.back.specs.Back.{Back, was, refused, onlyIf, sameAll, unPresent, unOld, formerInput, unInput, takeOff, stepBack, steppedFrom}
+use Rattle.back.specs.Undo.{undoOf, undone}
 use Rattle.back.specs.declared.BoardTick.{BoardTick}
 use Rattle.back.specs.declared.BoardTick.the-variants.{In}
 use Rattle.back.specs.declared.Board.{Board}
@@ -76,10 +87,25 @@ module _ (t : ℤ) (e : Entries) (z : ℤ) (b : ℕ) (f : SFits w32 z) (q : b �
 
 -- ---- the whole step: b is the board, g the flag of its test
 
-module _ (b : Board) (u : Undo) (g : Bool) (q : g ≡ goodBoard b) where
-  pub bad : not g ≡ true → refused BadState ≡ takeBack b u
+module _ (b : Board) (u : Event) (ten former : List ℤ) (g : Bool) (q : g ≡ goodBoard b) where
+  pub bad : not g ≡ true → refused BadState ≡ stepBack b u ten former
+  unfolding stepBack
   bad n = rw (← q, not-true g n)
 
   pub good-in : not g ≡ false → (t : BoardTick) → b .tick ≡ t
-      → steppedFrom (board t (b .entries)) (takeOff u t (b .entries)) ≡ steppedFrom b (takeBack b u)
+      → steppedFrom (board t (b .entries)) (takeOff u ten former t (b .entries)) ≡ steppedFrom b (stepBack b u ten former)
+  unfolding stepBack
   good-in n t p = rw (← q, not-false g n, ← p)
+
+-- ---- an event is known by its undo
+
+module _ (b : Board) (ten former : List ℤ) where
+  pub undo-same : (e : Event) → stepBack b (undone (undoOf e)) ten former ≡ stepBack b e ten former
+  unfolding stepBack
+  undo-same (tickStart t) = refl
+  undo-same (tickEnd t) = refl
+  undo-same (playerNew c x y) = refl
+  undo-same (playerChange c x y old-x old-y) = refl
+  undo-same (playerOld c x y) = refl
+  undo-same (input c had) = refl
+  undo-same (other r) = refl

@@ -17,13 +17,11 @@ ghost use Rattle.back.specs.Back.{
   unOld,
   formerInput,
   unInput,
-  undoOf,
   takeOff,
-  takeBack,
   stepBack,
-  undoIs,
   steppedFrom,
 };
+ghost use Rattle.back.specs.Undo.{undoOf, undone};
 ghost use Rattle.back.specs.declared.BoardTick.the-variants.{In, NoTick};
 use lookups::InputOf;
 use lookups::Pos;
@@ -268,7 +266,7 @@ fn un_start(t: i32, entries: Entries, u: i32) -> SteppedBack
 
 // An event taken off a board inside tick t.
 fn inside(t: i32, entries: Entries, undo: Undo, input: [i32; 10], former: [i32; 10]) -> SteppedBack
-    ensures { λ r. ⌜ r ≡ steppedFrom (board (In t) entries) (takeOff (undoIs undo input former) (In t) entries) ⌝ }
+    ensures { λ r. ⌜ r ≡ steppedFrom (board (In t) entries) (takeOff (undone undo) input former (In t) entries) ⌝ }
 {
     match undo {
         Undo::Start(u) => un_start(t, entries, u),
@@ -299,7 +297,7 @@ fn un_end(entries: Entries, u: i32) -> SteppedBack
 // An event taken off a board outside any tick: only TickEnd fits.
 fn outside(entries: Entries, undo: Undo) -> SteppedBack
     ensures { λ r. ⌜
-        ((input former : List ℤ) → r ≡ steppedFrom (board NoTick entries) (takeOff (undoIs undo input former) NoTick entries))
+        ((input former : List ℤ) → r ≡ steppedFrom (board NoTick entries) (takeOff (undone undo) input former NoTick entries))
         ⌝ }
 {
     match undo {
@@ -321,7 +319,7 @@ fn outside(entries: Entries, undo: Undo) -> SteppedBack
 
 // What a step back over the event has to know of it.
 pub fn undo_of(event: Event) -> Undo
-    ensures { λ r. ⌜ ((input former : List ℤ) → undoIs r input former ≡ undoOf (eventIs event) input former) ⌝ }
+    ensures { λ r. ⌜ r ≡ undoOf (eventIs event) ⌝ }
 {
     match event {
         Event::TickStart(tick) => Undo::Start(tick),
@@ -349,7 +347,7 @@ pub fn undo_of(event: Event) -> Undo
 // One step back over an event that is known by its undo: the board before it, of its ten numbers and the former ten (of an input; else
 // they are not looked at).
 pub fn take_back(board: Board, undo: Undo, input: [i32; 10], former: [i32; 10]) -> SteppedBack
-    ensures { λ r. ⌜ r ≡ steppedFrom board (takeBack board (undoIs undo input former)) ⌝ }
+    ensures { λ r. ⌜ r ≡ steppedFrom board (stepBack board (undone undo) input former) ⌝ }
 {
     let tick = board.tick;
     let entries = board.entries;

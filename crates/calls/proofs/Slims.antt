@@ -6,7 +6,7 @@ use native.Mathlib.Omega.{arith}
 use lib.IntN.{ℤ}
 use Rattle.item.specs.Said.{Said, gives, more, finish, refuses}
 use Rattle.state.specs.Reading.{Event}
-use Rattle.state.specs.Views.{slim, slimSaid}
+use Rattle.state.specs.Slim.{slim, slimSaid}
 use Rattle.state.specs.Laws.{usedIn}
 
 pub slim-used : (x : Said Event) → usedIn (slimSaid x) ≡ usedIn x

@@ -9,11 +9,12 @@ use lib.Seq.{getD-set-same, set-getD, set-set}
 use lib.Dec.{ltb, eqb}
 use lib.IntN.{ℤ, pos}
 use borrow.Author.Tests.{eqb-true, lt-ltb}
-use Rattle.state.specs.State.{sameInt, present, xOf, yOf, withPlayer, moved, holds, tenOf, putTen, withInput, goodPlayer, goodPlayers, tenZeros, goodInput, goodInputs, goodEntries}
+use Rattle.state.specs.State.{sameInt, present, xOf, yOf, withPlayer, moved, holds, tenOf, putTen, withInput, goodPlayers, tenZeros, goodInputs, goodEntries}
+use Rattle.state.specs.steps.Parts.{goodPlayer, goodInput}
 use Rattle.state.specs.Laws.{Sizes}
 use Rattle.state.specs.declared.Entries.{Entries}
 use Rattle.back.specs.Back.{sameAll, presentAt, formerInput}
-use Rattle.demand.specs.Demand.{players}
+use Rattle.demand.specs.Events.{players}
 use Rattle.demand.proofs.Tests.{and-true, same-refl, same-true, same-all-refl, every-at, blank}
 use Rattle.demand.proofs.Ten.{ten-zeros, ten-put, put-back}
 

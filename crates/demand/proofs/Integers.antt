@@ -4,14 +4,14 @@ use mathlib.Core.Path.{_≡_, refl, sym, _∙_, ap}
 use mathlib.Core.Bool.{true, false}
 use mathlib.Core.List.{List, [], _∷_, _++_}
 use native.Mathlib.Omega.{arith}
-use lib.ListN.{length, getD, take, drop, length-take, length-drop, drop-of-length-le}
-use lib.Seq.{getD-take, take-nil, length-take-le}
-use lib.IntN.{ℤ}
+use lib.ListN.{length, getD, take, drop, length-append, length-take, length-drop, drop-of-length-le}
+use lib.Seq.{getD-append-add, getD-take, take-nil, length-take-le}
+use lib.IntN.{ℤ, pos}
 use Rattle.num.proofs.Cases.{by-bool}
 use Rattle.varint.specs.Integers.{signOf, isLast, amount, readFrom, readInt}
 use Rattle.varint.specs.declared.Remark.{Remark}
 use Rattle.varint.specs.declared.IntRead.the-variants.{Got}
-use Rattle.demand.specs.Demand.{integers, lastTwo, difference}
+use Rattle.demand.specs.Events.{integers, lastTwo, difference}
 
 -- ---- one integer: it uses a byte or more, and no byte past them matters
 
@@ -107,10 +107,12 @@ run-integers {w} (one {at} {m} {next} {z} {zs} r e s) (suc k) h =
 
 last-two : (zs : List ℤ) (x y : ℤ) → lastTwo (zs ++ x ∷ y ∷ []) ≡ (x, y)
 unfolding lastTwo
-last-two [] x y = refl
-last-two (a ∷ []) x y = refl
-last-two (a ∷ b ∷ []) x y = refl
-last-two (a ∷ b ∷ c ∷ zs) x y = last-two (b ∷ c ∷ zs) x y
+last-two zs x y =
+    let l = zs ++ x ∷ y ∷ [] in
+    let n = length-append zs (x ∷ y ∷ []) in
+    let a : length l - 2 ≡ length zs + 0 = omega (arith, n) in
+    let b : length l - 1 ≡ length zs + 1 = omega (arith, n) in
+    rw (a, b, getD-append-add zs (x ∷ y ∷ []) 0 (pos 0), getD-append-add zs (x ∷ y ∷ []) 1 (pos 0))
 
 -- a window's first integers: the last two of them
 pub run-difference : {w : List ℕ} {next : ℕ} (zs : List ℤ) (x y : ℤ) → Run w 0 (zs ++ x ∷ y ∷ []) next → difference (take next w) ≡ (x, y)

@@ -10,7 +10,8 @@ use lib.Seq.{getD-set-same, getD-set-other, ext-getD}
 use lib.IntN.{ℤ, pos}
 use Rattle.num.proofs.Cases.{by-eq}
 use Rattle.fields.specs.Views.{zeros}
-use Rattle.state.specs.State.{tenOf, puts, putTen, zeroAt, tenZeros}
+use Rattle.state.specs.State.{tenOf, puts, putTen, tenZeros}
+use Rattle.state.specs.steps.Parts.{zeroAt}
 use Rattle.demand.proofs.Tests.{same-true, every-at}
 
 -- n places from k on

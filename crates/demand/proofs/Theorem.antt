@@ -5,27 +5,17 @@ use mathlib.Core.Bool.{Bool, true, false, _&&_, false≢true}
 use mathlib.Core.List.{List, [], _∷_, _++_, append-assoc, append-nil}
 use lib.ListN.{getD, replicate}
 use lib.Dec.{ltb}
-use lib.IntN.{ℤ, pos, negsuc}
+use lib.IntN.{pos}
 use Rattle.kinds.specs.declared.Version.{Version}
-use Rattle.state.specs.State.{noEntries, emptyReader}
+use Rattle.state.specs.State.{present, noEntries, emptyReader}
 use Rattle.state.specs.Laws.{Sizes}
 use Rattle.state.specs.declared.Reader.{Reader}
 use Rattle.state.proofs.Board.{none-sizes}
 use Rattle.back.specs.Board.{boardOf}
 use Rattle.back.specs.Back.{Back, was}
 use Rattle.calls.specs.Calls.{Call, call, next, Seen, isPending, eventOf, after, events}
-use Rattle.demand.specs.Demand.{
-  is13,
-  meets13,
-  backOne,
-  backOver,
-  isPresent,
-  count,
-  players,
-  presentOn,
-  Told,
-  Demand3,
-}
+use Rattle.demand.specs.Events.{is13, meets13, backOne, backOver, count, isPresent, players}
+use Rattle.demand.specs.Demand.{Told, Demand3}
 use Rattle.demand.proofs.Tests.{or-false}
 use Rattle.demand.proofs.Steps.{Good}
 use Rattle.demand.proofs.Calls.{fair-call}
@@ -95,10 +85,9 @@ and-no : (a : Bool) → a && false ≡ false
 and-no true = refl
 and-no false = refl
 
-nobody : (c : ℤ) → presentOn noEntries c ≡ isPresent c []
+nobody : (c : ℕ) → present noEntries c ≡ isPresent (pos c) []
 unfolding noEntries isPresent
-nobody (pos c) = rw (no-mark 128 c) (and-no (ltb c 128))
-nobody (negsuc c) = refl
+nobody c = rw (no-mark 128 c) (and-no (ltb c 128))
 
 no-players : players (replicate {A = ℕ} 128 0) + 0 ≡ 0
 unfolding players
@@ -106,7 +95,7 @@ no-players = refl
 
 empty-told : Told noEntries []
 unfolding noEntries count isPresent
-empty-told = record { number = no-players; presence = nobody; position = λ c e. absurd (false≢true e) }
+empty-told = record { number = no-players; presence = nobody; negative = λ c. refl; position = λ c e. absurd (false≢true e) }
 
 empty-inv : (v : Version) → Inv (emptyReader v) []
 unfolding emptyReader

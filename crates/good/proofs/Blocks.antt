@@ -9,7 +9,8 @@ use lib.ListN.{getD}
 use lib.Dec.{eqb}
 use lib.IntN.{ℤ}
 use borrow.Author.Tests.{eqb-true}
-use Rattle.state.specs.State.{every, goodEntry, zeroAt, tenZeros, goodInput}
+use Rattle.state.specs.State.{every, goodEntry, tenZeros}
+use Rattle.state.specs.steps.Parts.{zeroAt, goodInput}
 use Rattle.state.proofs.Every.{left-of, right-of, every-same}
 use Rattle.good.specs.steps.Blocks.{from, noMark}
 

@@ -8,19 +8,17 @@ ghost use Rattle.state.specs.State.{
   sameInt,
   entriesWith,
   every,
-  zeroAt,
   goodEntry,
   goodPlayers,
   tenZeros,
-  goodInput,
   goodInputs,
   goodEntries,
-  goodKind,
   goodPending,
   goodScalars,
   readerWith,
   goodReader,
 };
+ghost use Rattle.state.specs.steps.Parts.{zeroAt, goodInput, goodKind};
 ghost use Rattle.good.specs.steps.Blocks.{from, noMark};
 use kinds::Kind;
 use kinds::Version;

@@ -37,9 +37,11 @@ use denote.Triple.Spec.{tripleOf}
 use denote.Triple.Table.{entered, cited}
 use denote.Triple.Clauses.{Clauses, Ended, closing}
 use denote.Triple.Walked.{Stays, AllGo, Walks, walk-meets}
-use Rattle.state.specs.State.{Memory, memory}
+use Rattle.state.specs.State.{Memory}
 use Rattle.state.specs.Reading.{stepOf, callOn}
-use Rattle.state.specs.Views.{saidIs, slimStep}
+use Rattle.state.specs.Views.{saidIs}
+use Rattle.state.specs.Slim.{slimStep}
+use Rattle.state.specs.steps.Inside.{memory}
 use Rattle.state.specs.declared.Scalars.{Scalars}
 use Rattle.state.specs.declared.Answer.{Answer}
 use Rattle.state.specs.declared.Outcome.{Outcome}

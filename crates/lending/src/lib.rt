@@ -1,9 +1,10 @@
 // The reading call with the scalars lent too, as the entries are: a thin call above the by-value step. A state that is refused 17 is
 // tested for first, as in every reading call.
 ghost use mathlib.Core.Path.{_≡_};
-ghost use Rattle.state.specs.State.{memory};
 ghost use Rattle.state.specs.Reading.{stepOf, callOn};
-ghost use Rattle.state.specs.Views.{saidIs, done, slimStep};
+ghost use Rattle.state.specs.Views.{saidIs};
+ghost use Rattle.state.specs.Slim.{slimStep};
+ghost use Rattle.state.specs.steps.Inside.{memory, done};
 use refusal::Refusal;
 use state::Answer;
 use state::Outcome;

@@ -1,9 +1,9 @@
 // The reading call on lent entries, with the scalars by value: they are lent from a local, so that covered code reaches the call that
 // takes them lent.
 ghost use mathlib.Core.Path.{_≡_};
-ghost use Rattle.state.specs.State.{memory};
 ghost use Rattle.state.specs.Reading.{callOn};
-ghost use Rattle.state.specs.Views.{done, slimStep};
+ghost use Rattle.state.specs.Slim.{slimStep};
+ghost use Rattle.state.specs.steps.Inside.{memory, done};
 use state::Outcome;
 use state::Scalars;
 

@@ -13,7 +13,9 @@ use Rattle.num.specs.Wrap.{wrap32}
 use Rattle.item.specs.Said.{Said, more, finish, refusing}
 use Rattle.state.specs.State.{Memory, readerWith, goodReader}
 use Rattle.state.specs.Reading.{Event, Step, goodCall, readCall, readerAfter}
-use Rattle.state.specs.Views.{eventIs, saidIs, done, slimSaid, slimStep}
+use Rattle.state.specs.Views.{eventIs, saidIs}
+use Rattle.state.specs.Slim.{slimSaid, slimStep}
+use Rattle.state.specs.steps.Inside.{done}
 use Rattle.state.specs.Laws.{usedIn, Sound}
 use Rattle.state.specs.declared.Scalars.{Scalars}
 use Rattle.state.specs.declared.Reader.{Reader}

@@ -5,7 +5,7 @@ use lib.IntN.{ℤ, pos}
 use Rattle.item.specs.Contents.{tagNumber}
 use Rattle.kinds.specs.declared.Cid.{Cid}
 use Rattle.state.specs.Reading.{Event}
-use Rattle.state.specs.Views.{slim}
+use Rattle.state.specs.Slim.{slim}
 use Rattle.rests.proofs.Slim.{slim-same}
 use Rattle.step.proofs.Others.{cid-own}
 use Rattle.rows.specs.Rows.{clientFlag, clientOr0, eight, eventRow, eventTens}

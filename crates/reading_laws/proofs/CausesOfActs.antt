@@ -5,7 +5,7 @@ use mathlib.Core.Bool.{Bool, true, false≢true}
 use mathlib.Core.List.{List, [], _∷_}
 use native.Mathlib.Omega.{arith}
 use lib.Dec.{ltb}
-use lib.IntN.{ℤ, pos, negsuc}
+use lib.IntN.{ℤ, pos, negsuc, natAbs}
 use lib.Signed.{nonNeg}
 use borrow.Author.Tests.{ltb-true, ltb-false, lt-ltb, le-ltb}
 use Rattle.refusal.specs.declared.Refusal.{Refusal}
@@ -28,7 +28,7 @@ use Rattle.item.specs.declared.Tag.the-variants.{Plain}
 use Rattle.views.proofs.Refusals.{same-refusal}
 use Rattle.causes.proofs.Theorems.{kinds-refused, rests-refused}
 use Rattle.state.specs.State.{Memory, readerWith, goodScalars}
-use Rattle.state.specs.Reading.{Event, Step, nextTick, dtOf, nextKind}
+use Rattle.state.specs.Reading.{Event, Step, nextTick, nextKind}
 use Rattle.state.specs.Acts.{HadKind, Had, firstOf, MayRead, WhyPlain, WhyPlayer, WhyInput, Act}
 use Rattle.state.specs.Acts as act
 use Rattle.state.specs.declared.Next.the-variants.{Past}
@@ -94,16 +94,16 @@ pub record DtRead (w : List ℕ) (at dt : ℕ) : Type 0 where
   pub read : readInt w at ≡ ints.Got (pos dt) next remark
 
 dt-read : (w : List ℕ) (at : ℕ) {c : Content Part} {n : ℕ} (i : IntRead) → readInt w at ≡ i
-    → asContent (Plain kinds.TickSkip) (andThen (dtField i) (readFields [] w)) ≡ got c n → DtRead w at (dtOf (firstOf c))
+    → asContent (Plain kinds.TickSkip) (andThen (dtField i) (readFields [] w)) ≡ got c n → DtRead w at (natAbs (firstOf c))
 unfolding numbers
 dt-read w at {c} (ints.Got (pos d) next m) i e =
     let p : content (Plain kinds.TickSkip) (num (pos d) ∷ []) ≡ c = cc in
-    let q : d ≡ dtOf (firstOf c) = ap (λ (x : Content Part). dtOf (firstOf x)) p in
+    let q : d ≡ natAbs (firstOf c) = ap (λ (x : Content Part). natAbs (firstOf x)) p in
     record { next = next; remark = m; read = rw (← q) i }
 dt-read w at (ints.Got (negsuc d) next m) i e = let z : _≡_ {A = ℕ} 0 1 = cc in absurd (omega arith)
 dt-read w at ints.RunsOut i e = let z : _≡_ {A = ℕ} 0 1 = cc in absurd (omega arith)
 
-skip-read : {s : Scalars} {w : List ℕ} {c : Content Part} {n : ℕ} (h : Had s w kinds.TickSkip c n) → DtRead w (h .at) (dtOf (firstOf c))
+skip-read : {s : Scalars} {w : List ℕ} {c : Content Part} {n : ℕ} (h : Had s w kinds.TickSkip c n) → DtRead w (h .at) (natAbs (firstOf c))
 unfolding readRest
 skip-read {w = w} h = dt-read w (h .at) (readInt w (h .at)) refl (h .rest)
 
@@ -125,7 +125,7 @@ module _ (s : Scalars) (e : Entries) (w : List ℕ) (last : Bool) (g : goodScala
       let t = past-late (s .tick) 0 (good-tick s g) x in
       cause.endOverflow h p i b (t .is) (omega (arith, t .late))
   plain-cause (act.skipsPast {r} h x) =
-      let t = past-late (s .tick) (dtOf (firstOf r)) (good-tick s g) x in
+      let t = past-late (s .tick) (natAbs (firstOf r)) (good-tick s g) x in
       let d = skip-read h in
       cause.skipOverflow (h .kind) (d .read) (t .is) (t .late)
 

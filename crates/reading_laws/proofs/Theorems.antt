@@ -24,7 +24,7 @@ use Rattle.state.proofs.ByActs.{calls-by-acts}
 use Rattle.rests.proofs.Slim.{slim-same}
 use Rattle.reader.specs.Answers.{saidWith}
 use Rattle.reader.specs.declared.ReadAnswer.{ReadAnswer}
-use Rattle.back.specs.Back.{undoOf, stepBack}
+use Rattle.back.specs.Back.{stepBack}
 use Rattle.reading_laws.specs.Causes.{Open, Cause, WantsMore}
 use Rattle.reading_laws.specs.Causes as cause
 use Rattle.reading_laws.specs.Laws.{RefusalsHaveCauses, MoreIsWanted, ReadDetermined, BackWithoutArguments}
@@ -160,4 +160,4 @@ read-determined r w last a b ha hb =
 
 pub back-without-arguments : BackWithoutArguments
 unfolding stepBack
-back-without-arguments b e ten former = rw (slim-same (λ (d : Event). undoOf d ten former) (λ r. refl) e)
+back-without-arguments b e ten former = slim-same (λ (d : Event). stepBack b d ten former) (λ r. refl) e

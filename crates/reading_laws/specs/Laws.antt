@@ -7,7 +7,7 @@ use mathlib.Core.List.{List}
 use lib.IntN.{ℤ}
 use Rattle.refusal.specs.declared.Refusal.{Refusal}
 use Rattle.state.specs.Reading.{Event}
-use Rattle.state.specs.Views.{slim}
+use Rattle.state.specs.Slim.{slim}
 use Rattle.state.specs.declared.Reader.{Reader}
 use Rattle.state.specs.declared.Answer.the-variants as answers
 use Rattle.reader.specs.Answers.{ReadIs}

@@ -28,8 +28,9 @@ use Rattle.records.specs.declared.ItemRead.{ItemRead}
 use Rattle.state.specs.Sorts.{Sort, tagSort}
 use Rattle.state.specs.Sorts as sorts
 use Rattle.state.specs.State.{Memory}
-use Rattle.state.specs.Reading.{Step, stepOf, other, raising, refusalStep, outOf, otherRecord, applySort, apply, withRest}
-use Rattle.state.specs.Views.{slimStep}
+use Rattle.state.specs.Reading.{Step, stepOf, other, raising, refusalStep, outOf, applySort, apply}
+use Rattle.state.specs.Slim.{slimStep}
+use Rattle.state.specs.steps.Parts.{otherRecord, withRest}
 use Rattle.state.specs.declared.Scalars.{Scalars}
 use Rattle.state.proofs.Every.{left-of, right-of}
 use Rattle.state.proofs.Places.{RestSort, rest-sort}
@@ -128,7 +129,7 @@ module _ (s : Scalars) (m : Memory) where
 
   apply-other : (c : Content Part) (n : ℕ) → otherSort (tagSort (c .tag)) ≡ true
       → stepOf (gives (other (ownContent c)) n) (raising (cidOf (ownContent c)) s) m ≡ slimStep (apply s m c n)
-  unfolding apply otherRecord
+  unfolding apply
   apply-other c n o =
       ap (λ (i : Cid). stepOf (gives (other (ownContent c)) n) (raising i s) m) (cid-own c)
       ∙ ap slimStep (sym (apply-sort (tagSort (c .tag)) c (numbers (c .values)) n o))

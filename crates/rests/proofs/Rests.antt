@@ -29,8 +29,9 @@ use Rattle.kinds.specs.declared.Cid.the-variants.{Of}
 use Rattle.kinds.specs.Kinds.{inputKind}
 use Rattle.records.proofs.Inputs.{Numbers, all-numbers}
 use Rattle.state.specs.State.{Memory}
-use Rattle.state.specs.Reading.{Step, stepOf, refusalStep, outOf, closing, naming, raising, playerDiff, newPlayer, oldPlayer, inputDiff, inputNew, tickSkip, first, apply, withRest}
-use Rattle.state.specs.Views.{slimStep}
+use Rattle.state.specs.Reading.{Step, stepOf, refusalStep, outOf, closing, naming, raising, playerDiff, newPlayer, oldPlayer, inputDiff, inputNew, tickSkip, first, apply}
+use Rattle.state.specs.Slim.{slimStep}
+use Rattle.state.specs.steps.Parts.{withRest}
 use Rattle.state.specs.declared.Scalars.{Scalars}
 use Rattle.rests.specs.steps.Kinds.{pairKind}
 use Rattle.rests.proofs.Slim.{slim-calm, calm-refusal, calm-out, calm-diff, calm-new, calm-old, calm-input-diff, calm-input-new, calm-skip}

@@ -12,8 +12,9 @@ use Rattle.item.specs.Records.{Content}
 use Rattle.item.specs.Contents.{ownContent}
 use Rattle.item.specs.Said.{Said, gives, more, finish, refuses}
 use Rattle.state.specs.State.{Memory, present, holds}
-use Rattle.state.specs.Reading.{Event, tickStart, tickEnd, playerNew, playerChange, playerOld, input, other, Step, stepOf, refusalStep, outOf, nextTick, playerDiff, newPlayer, oldPlayer, inputDiff, inputNew, skipped, tickSkip}
-use Rattle.state.specs.Views.{slim, slimSaid, slimStep}
+use Rattle.state.specs.Reading.{Event, tickStart, tickEnd, playerNew, playerChange, playerOld, input, other, Step, stepOf, refusalStep, outOf, nextTick, playerDiff, newPlayer, oldPlayer, inputDiff, inputNew, tickSkip}
+use Rattle.state.specs.Slim.{slim, slimSaid, slimStep}
+use Rattle.state.specs.steps.Parts.{skipped}
 use Rattle.state.specs.declared.Scalars.{Scalars}
 use Rattle.state.specs.declared.Next.{Next}
 use Rattle.state.specs.declared.Next.the-variants.{Tick, Past}

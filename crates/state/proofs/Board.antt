@@ -20,15 +20,13 @@ use Rattle.state.specs.State.{
   moved,
   withInput,
   goodEntry,
-  goodPlayer,
   goodPlayers,
-  zeroAt,
   tenZeros,
-  goodInput,
   goodInputs,
   goodEntries,
   noEntries,
 }
+use Rattle.state.specs.steps.Parts.{goodPlayer, zeroAt, goodInput}
 use Rattle.state.specs.Laws.{Sizes}
 use Rattle.state.specs.declared.Entries.{Entries}
 use Rattle.state.proofs.Every.{left-of, right-of, every-from, every-map}

@@ -43,7 +43,8 @@ use Rattle.kinds.specs.declared.Kind.{Kind}
 use Rattle.kinds.specs.declared.Kind.the-variants as kinds
 use Rattle.item.specs.declared.Tag.the-variants.{Plain, Named}
 use Rattle.state.specs.Sorts.{sortOf, tagSort}
-use Rattle.state.specs.State.{goodKind, goodPending}
+use Rattle.state.specs.State.{goodPending}
+use Rattle.state.specs.steps.Parts.{goodKind}
 use Rattle.state.specs.Reading.{nextKind}
 use Rattle.state.specs.declared.Pending.{Pending}
 use Rattle.state.specs.declared.Pending.the-variants.{Is, NoKind}

@@ -12,7 +12,8 @@ use mir.Facts.{toZ-pos}
 use Rattle.item.specs.Said.{gives}
 use Rattle.kinds.specs.declared.Cid.the-variants.{Of, NoCid}
 use Rattle.state.specs.State.{Memory}
-use Rattle.state.specs.Reading.{tickStart, tickEnd, stepOf, skipping, nextTick, skipped, endsAt, playerRule}
+use Rattle.state.specs.Reading.{tickStart, tickEnd, stepOf, skipping, nextTick, playerRule}
+use Rattle.state.specs.steps.Parts.{skipped, endsAt}
 use Rattle.state.specs.declared.Scalars.{Scalars}
 use Rattle.state.specs.declared.Rule.the-variants.{Reads, Starts}
 use Rattle.state.specs.declared.Next.the-variants.{Tick, Past}

@@ -7,7 +7,7 @@ use mathlib.Core.Bool.{Bool, true, false}
 use mathlib.Core.List.{List}
 use lib.ListN.{drop}
 use lib.Dec.{ltb}
-use lib.IntN.{ℤ, pos, negsuc, _+ℤ_}
+use lib.IntN.{ℤ, pos, negsuc, _+ℤ_, natAbs}
 use Rattle.refusal.specs.declared.Refusal.{Refusal}
 use Rattle.refusal.specs.declared.Refusal.the-variants.{
   UnexpectedEnd,
@@ -53,7 +53,6 @@ use Rattle.state.specs.Reading.{
   skipping,
   nextTick,
   sums,
-  dtOf,
   first,
   second,
   atOrBelow,
@@ -157,7 +156,7 @@ pub data WhyPlain (s : Scalars) (w : List ℕ) (last : Bool) : Refusal → Type 
   restRefused : {r : Refusal} {k : Kind} {n : ℕ} → HadKind s w k n → MayRead s k → readRest k w n ≡ refused r → WhyPlain s w last r
   endsPast : {k : Kind} {n : ℕ} {c : ℤ} → HadKind s w k n → PlayerKind k c → s .inside ≡ true → atOrBelow c (s .remembered) ≡ true
       → nextTick (s .tick) 0 ≡ Past → WhyPlain s w last TickOverflow
-  skipsPast : {r : Content Part} {n : ℕ} → Had s w kinds.TickSkip r n → nextTick (s .tick) (dtOf (firstOf r)) ≡ Past
+  skipsPast : {r : Content Part} {n : ℕ} → Had s w kinds.TickSkip r n → nextTick (s .tick) (natAbs (firstOf r)) ≡ Past
       → WhyPlain s w last TickOverflow
 
 -- 8, 10, 14 and 15: a player record of client c was read
@@ -204,9 +203,9 @@ pub data Act (s : Scalars) (e : Entries) (w : List ℕ) (last : Bool) : (Memory 
   lastTickEnds : {n : ℕ} → HadKind s w kinds.Finish n → s .inside ≡ true
       → Act s e w last (says (gives (tickEnd (s .tick)) n) (ending (s .tick) (s .remembered) kinds.Finish s) e)
   skipStarts : {r : Content Part} {n : ℕ} {t : ℤ} → Had s w kinds.TickSkip r n → s .inside ≡ false
-      → nextTick (s .tick) (dtOf (firstOf r)) ≡ Tick t → Act s e w last (says (gives (tickStart t) n) (skipping t true s) e)
+      → nextTick (s .tick) (natAbs (firstOf r)) ≡ Tick t → Act s e w last (says (gives (tickStart t) n) (skipping t true s) e)
   skipEnds : {r : Content Part} {n : ℕ} {t : ℤ} → Had s w kinds.TickSkip r n → s .inside ≡ true
-      → nextTick (s .tick) (dtOf (firstOf r)) ≡ Tick t → Act s e w last (says (gives (tickEnd (s .tick)) n) (skipping t false s) e)
+      → nextTick (s .tick) (natAbs (firstOf r)) ≡ Tick t → Act s e w last (says (gives (tickEnd (s .tick)) n) (skipping t false s) e)
   -- a player comes, moves or leaves
   playerComes : {c : ℕ} {r : Content Part} {n : ℕ} → Had s w (kinds.PlayerNew (pos c)) r n → MayCome s (pos c) → ltb c 128 ≡ true
       → present e c ≡ false → Act s e w last

@@ -4,7 +4,7 @@ use mathlib.Core.Bool.{Bool, true, false, not, cond}
 use mathlib.Core.List.{List, map}
 use lib.ListN.{getD, drop}
 use lib.Dec.{ltb}
-use lib.IntN.{ℤ, pos, negsuc, _+ℤ_}
+use lib.IntN.{ℤ, pos, negsuc, _+ℤ_, natAbs}
 use lib.Signed.{ltZ}
 use Rattle.refusal.specs.declared.Refusal.{Refusal}
 use Rattle.refusal.specs.declared.Refusal.the-variants.{
@@ -48,6 +48,7 @@ use Rattle.state.specs.State.{
   withInput,
   readerWith,
   goodReader,
+  scalarsOf,
 }
 use Rattle.state.specs.declared.Pending.{Pending}
 use Rattle.state.specs.declared.Pending.the-variants.{Is, NoKind}
@@ -83,8 +84,7 @@ stepOf a s m = record { said = a; scalars = s; memory = m }
 
 -- the scalars that a call leaves; the version stays
 abbrev pub turned : Scalars → ℤ → Bool → Cid → ℤ → Pending → Bool → Scalars
-turned s t i p m k c =
-    record { version = s .version; tick = t; inside = i; remembered = p; largest = m; pending = k; closed = c }
+turned s t i p m k c = scalarsOf (s .version) t i p m k c
 
 -- after a refusal or finish: closed, with nothing pending
 unfoldable pub closing : Scalars → Scalars
@@ -102,19 +102,16 @@ raising c s = turned s (s .tick) (s .inside) (s .remembered) (raisedTo (s .large
 unfoldable pub naming : ℤ → Scalars → Scalars
 naming c s = turned s (s .tick) (s .inside) (Of c) (larger (s .largest) c) NoKind (s .closed)
 
--- at the start or the end of a tick: the kind is pending, or after a TickSkip none
-abbrev pub ticking : ℤ → Bool → Cid → Pending → Scalars → Scalars
-ticking t i p k s = turned s t i p (s .largest) k (s .closed)
-
+-- at the start or the end of a tick the kind is pending
 unfoldable pub starting : Kind → Scalars → Scalars
-starting k s = ticking (s .tick) true (s .remembered) (Is k) s
+starting k s = turned s (s .tick) true (s .remembered) (s .largest) (Is k) (s .closed)
 
 unfoldable pub ending : ℤ → Cid → Kind → Scalars → Scalars
-ending t p k s = ticking t false p (Is k) s
+ending t p k s = turned s t false p (s .largest) (Is k) (s .closed)
 
--- a TickSkip leaves the remembered client
+-- after a TickSkip none is; the remembered client stays
 unfoldable pub skipping : ℤ → Bool → Scalars → Scalars
-skipping t i s = ticking t i (s .remembered) NoKind s
+skipping t i s = turned s t i (s .remembered) (s .largest) NoKind (s .closed)
 
 unfoldable pub refusalStep : Refusal → Scalars → Memory → Step
 refusalStep r s m = stepOf (refusing r) (closing s) m
@@ -128,6 +125,11 @@ outOf false s m = stepOf more s m
 unfoldable pub nextTick : ℤ → ℕ → Next
 nextTick (pos t) k = cond (ltb 2147483647 (t + k + 1)) Past (Tick (pos (t + k + 1)))
 nextTick (negsuc t) k = Past
+
+-- by the next tick: what go says of it, or over
+abbrev pub ifTick : {A : Type 0} → (ℤ → A) → A → Next → A
+ifTick go over (Tick t) = go t
+ifTick go over Past = over
 
 -- ---- a record on a reader; n bytes are used
 
@@ -184,22 +186,11 @@ inputNew s m (pos c) ns n =
     (refusalStep ClientTooLarge s m)
 
 -- inside, the old tick ends; outside, the new one starts
-abbrev pub skipped : Scalars → Memory → ℕ → Next → Step
-skipped s m n (Tick t) =
-    cond (s .inside)
-    (stepOf (gives (tickEnd (s .tick)) n) (skipping t false s) m)
-    (stepOf (gives (tickStart t) n) (skipping t true s) m)
-skipped s m n Past = refusalStep TickOverflow s m
-
-abbrev pub dtOf : ℤ → ℕ
-dtOf (pos k) = k
-dtOf (negsuc k) = 0
-
 unfoldable pub tickSkip : Scalars → Memory → ℕ → ℕ → Step
-tickSkip s m dt n = skipped s m n (nextTick (s .tick) dt)
-
-unfoldable pub otherRecord : Scalars → Memory → Content Part → ℕ → Step
-otherRecord s m c n = stepOf (gives (other c) n) (raising (cidOf c) s) m
+tickSkip s m dt n =
+    let ends : ℤ → Step = λ t. stepOf (gives (tickEnd (s .tick)) n) (skipping t false s) m in
+    let starts : ℤ → Step = λ t. stepOf (gives (tickStart t) n) (skipping t true s) m in
+    ifTick (λ t. cond (s .inside) (ends t) (starts t)) (refusalStep TickOverflow s m) (nextTick (s .tick) dt)
 
 abbrev pub first : List ℤ → ℤ
 first zs = getD zs 0 (pos 0)
@@ -207,37 +198,30 @@ first zs = getD zs 0 (pos 0)
 abbrev pub second : List ℤ → ℤ
 second zs = getD zs 1 (pos 0)
 
--- rules 5 to 7, by the record's sort and its numbers
+-- rules 5 to 7, by the record's sort and its numbers; dt is not negative
 abbrev pub applySort : Sort → Scalars → Memory → Content Part → List ℤ → ℕ → Step
 applySort (sorts.player sorts.moves cid) s m c zs n = playerDiff (naming cid s) m cid (first zs) (second zs) n
 applySort (sorts.player sorts.comes cid) s m c zs n = newPlayer (naming cid s) m cid (first zs) (second zs) n
 applySort (sorts.player sorts.leaves cid) s m c zs n = oldPlayer (naming cid s) m cid n
 applySort (sorts.input true) s m c zs n = inputNew (raising (Of (first zs)) s) m (first zs) (drop 1 zs) n
 applySort (sorts.input false) s m c zs n = inputDiff (raising (Of (first zs)) s) m (first zs) (drop 1 zs) n
-applySort sorts.skip s m c zs n = tickSkip s m (dtOf (first zs)) n
+applySort sorts.skip s m c zs n = tickSkip s m (natAbs (first zs)) n
 applySort sorts.finish s m c zs n = stepOf (finish n) (closing s) m
-applySort (sorts.other ex) s m c zs n = otherRecord s m c n
+applySort (sorts.other ex) s m c zs n = stepOf (gives (other c) n) (raising (cidOf c) s) m
 
 unfoldable pub apply : Scalars → Memory → Content Part → ℕ → Step
 apply s m c n = applySort (tagSort (c .tag)) s m c (numbers (c .values)) n
 
 -- ---- the tick rules (2 to 4)
 
-abbrev pub endsAt : Next → Rule
-endsAt (Tick t) = Ends t
-endsAt Past = Over
-
--- a player's client, at or below the remembered one, ends the tick; the next tick is t + 1
-abbrev pub comesAgain : ℤ → Bool → Rule
-comesAgain t true = endsAt (nextTick t 0)
-comesAgain t false = Reads
-
 abbrev pub atOrBelow : ℤ → Cid → Bool
 atOrBelow c NoCid = false
 atOrBelow c (Of p) = not (ltZ p c)
 
+-- a player's client at or below the remembered one ends the tick
 unfoldable pub playerRule : Scalars → ℤ → Rule
-playerRule s c = cond (s .inside) (comesAgain (s .tick) (atOrBelow c (s .remembered))) Starts
+playerRule s c =
+    cond (s .inside) (cond (atOrBelow c (s .remembered)) (ifTick Ends Over (nextTick (s .tick) 0)) Reads) Starts
 
 -- a kind other than TickSkip and Finish, and of no player, outside a tick
 abbrev pub otherRule : Scalars → Rule
@@ -255,22 +239,18 @@ tickRule s k = sortRule s (sortOf k)
 
 -- ---- the call
 
-abbrev pub withRest : Scalars → Memory → Bool → Reading (Content Part) → Step
-withRest s m last (got c n) = apply s m c n
-withRest s m last runsOut = outOf last s m
-withRest s m last (refused r) = refusalStep r s m
+-- a kind or the rest of a record, from the window
+abbrev pub ifRead : {A : Type 0} → Scalars → Memory → Bool → (A → ℕ → Step) → Reading A → Step
+ifRead s m last go (got x n) = go x n
+ifRead s m last go runsOut = outOf last s m
+ifRead s m last go (refused r) = refusalStep r s m
 
 abbrev pub withRule : Scalars → Memory → List ℕ → Bool → Kind → ℕ → Rule → Step
-withRule s m w last k n Reads = withRest s m last (readRest k w n)
+withRule s m w last k n Reads = ifRead s m last (apply s m) (readRest k w n)
 withRule s m w last k n Starts = stepOf (gives (tickStart (s .tick)) n) (starting k s) m
 withRule s m w last k n (Ends t) = stepOf (gives (tickEnd (s .tick)) n) (ending t NoCid k s) m
 withRule s m w last k n EndsHere = stepOf (gives (tickEnd (s .tick)) n) (ending (s .tick) (s .remembered) k s) m
 withRule s m w last k n Over = refusalStep TickOverflow s m
-
-abbrev pub withKind : Scalars → Memory → List ℕ → Bool → Reading Kind → Step
-withKind s m w last (got k n) = withRule s m w last k n (tickRule s k)
-withKind s m w last runsOut = outOf last s m
-withKind s m w last (refused r) = refusalStep r s m
 
 -- rule 1: the pending kind is taken, else a kind is read
 unfoldable pub nextKind : Version → Pending → List ℕ → Reading Kind
@@ -279,7 +259,8 @@ nextKind v (Is k) w = got k 0
 
 -- a call on an open reader
 unfoldable pub openCall : Scalars → Memory → List ℕ → Bool → Step
-openCall s m w last = withKind s m w last (nextKind (s .version) (s .pending) w)
+openCall s m w last =
+    ifRead s m last (λ k n. withRule s m w last k n (tickRule s k)) (nextKind (s .version) (s .pending) w)
 
 -- a call on a good reader
 unfoldable pub goodCall : Scalars → Memory → List ℕ → Bool → Step

@@ -10,7 +10,7 @@ use Rattle.fields.specs.Views.{zeros}
 pub use Rattle.kinds.specs.Kinds.{hasEx}
 use Rattle.kinds.specs.declared.Version.{Version}
 use Rattle.kinds.specs.declared.Version.the-variants.{V1, V2}
-use Rattle.kinds.specs.declared.Kind.{Kind}
+use Rattle.kinds.specs.declared.Cid.{Cid}
 use Rattle.kinds.specs.declared.Cid.the-variants.{NoCid}
 use Rattle.state.specs.Sorts.{Sort, sortOf}
 use Rattle.state.specs.Sorts as sorts
@@ -42,10 +42,6 @@ pub record Memory : Type 0 where
 
 abbrev pub entriesWith : List ℕ → List ℤ → List ℤ → List ℕ → List ℤ → Entries
 entriesWith marks xs ys held inputs = record { marks = marks; xs = xs; ys = ys; held = held; inputs = inputs }
-
-abbrev pub memory : List ℕ → List ℤ → List ℤ → List ℕ → List ℤ → List ℤ → List ℤ → Memory
-memory marks xs ys held inputs ten former =
-    record { entries = entriesWith marks xs ys held inputs; input = ten; former = former }
 
 abbrev pub withEntries : Entries → Memory → Memory
 withEntries e m = record { entries = e; input = m .input; former = m .former }
@@ -99,23 +95,17 @@ every (suc n) p = p n && every n p
 abbrev pub goodEntry : ℕ → Bool → Bool
 goodEntry mark blank = cond (eqb mark 1) true (eqb mark 0 && blank)
 
-abbrev pub goodPlayer : List ℕ → List ℤ → List ℤ → ℕ → Bool
-goodPlayer marks xs ys i = goodEntry (getD marks i 0) (sameInt (getD xs i (pos 0)) (pos 0) && sameInt (getD ys i (pos 0)) (pos 0))
+abbrev pub zeroIn : List ℤ → ℕ → Bool
+zeroIn l i = sameInt (getD l i (pos 0)) (pos 0)
 
 unfoldable pub goodPlayers : List ℕ → List ℤ → List ℤ → Bool
-goodPlayers marks xs ys = every 128 (goodPlayer marks xs ys)
-
-abbrev pub zeroAt : List ℤ → ℕ → ℕ → Bool
-zeroAt inputs c k = sameInt (getD inputs (10 * c + k) (pos 0)) (pos 0)
+goodPlayers marks xs ys = every 128 (λ c. goodEntry (getD marks c 0) (zeroIn xs c && zeroIn ys c))
 
 unfoldable pub tenZeros : List ℤ → ℕ → Bool
-tenZeros inputs c = every 10 (zeroAt inputs c)
-
-abbrev pub goodInput : List ℕ → List ℤ → ℕ → Bool
-goodInput held inputs i = goodEntry (getD held i 0) (tenZeros inputs i)
+tenZeros inputs c = every 10 (λ k. zeroIn inputs (10 * c + k))
 
 unfoldable pub goodInputs : List ℕ → List ℤ → Bool
-goodInputs held inputs = every 128 (goodInput held inputs)
+goodInputs held inputs = every 128 (λ c. goodEntry (getD held c 0) (tenZeros inputs c))
 
 abbrev pub goodEntries : Entries → Bool
 goodEntries e = goodPlayers (e .marks) (e .xs) (e .ys) && goodInputs (e .held) (e .inputs)
@@ -130,12 +120,9 @@ goodSort v sorts.skip = true
 goodSort v sorts.finish = true
 goodSort v (sorts.other ex) = cond ex (hasEx v) true
 
-abbrev pub goodKind : Version → Kind → Bool
-goodKind v k = goodSort v (sortOf k)
-
 abbrev pub goodPending : Version → Pending → Bool
 goodPending v NoKind = true
-goodPending v (Is k) = goodKind v k
+goodPending v (Is k) = goodSort v (sortOf k)
 
 unfoldable pub goodScalars : Scalars → Bool
 goodScalars s =
@@ -152,17 +139,11 @@ goodReader r = goodScalars (r .scalars) && goodEntries (r .entries)
 unfoldable pub noEntries : Entries
 noEntries = entriesWith (replicate {A = ℕ} 128 0) (zeros 128) (zeros 128) (replicate {A = ℕ} 128 0) (zeros 1280)
 
-abbrev pub start : Version → Scalars
-start v =
-    record {
-      version = v;
-      tick = pos 0;
-      inside = false;
-      remembered = NoCid;
-      largest = negsuc 0;
-      pending = NoKind;
-      closed = false;
-    }
+-- all the scalars: version, tick, whether inside it, the remembered client, the largest client, the pending kind, whether closed
+abbrev pub scalarsOf : Version → ℤ → Bool → Cid → ℤ → Pending → Bool → Scalars
+scalarsOf v t i p m k c =
+    record { version = v; tick = t; inside = i; remembered = p; largest = m; pending = k; closed = c }
 
+-- tick 0, outside a tick, no remembered client, largest client -1, no pending kind, open, nobody present
 unfoldable pub emptyReader : Version → Reader
-emptyReader v = record { scalars = start v; entries = noEntries }
+emptyReader v = readerWith (scalarsOf v (pos 0) false NoCid (negsuc 0) NoKind false) noEntries

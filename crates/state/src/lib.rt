@@ -10,7 +10,6 @@ ghost use Rattle.state.specs.Reading.{
   raisedTo,
   raising,
   naming,
-  ticking,
   starting,
   ending,
   skipping,
@@ -22,8 +21,9 @@ ghost use Rattle.state.specs.Reading.{
   otherRule,
   tickRule,
 };
-ghost use Rattle.state.specs.Views.{eventIs, done};
-ghost use Rattle.state.specs.steps.Inside.{noEntry};
+ghost use Rattle.state.specs.Views.{eventIs};
+ghost use Rattle.state.specs.steps.Parts.{ticking};
+ghost use Rattle.state.specs.steps.Inside.{noEntry, done};
 use item::Item;
 use kinds::Cid;
 use kinds::Kind;

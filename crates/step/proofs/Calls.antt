@@ -9,8 +9,9 @@ use Rattle.kinds.specs.declared.Kind.{Kind}
 use Rattle.kinds.specs.declared.KindRead.{KindRead}
 use Rattle.kinds.specs.declared.KindRead.the-variants as reads
 use Rattle.state.specs.State.{Memory}
-use Rattle.state.specs.Reading.{Step, refusalStep, outOf, tickRule, withRule, withKind, nextKind, openCall}
-use Rattle.state.specs.Views.{slimStep}
+use Rattle.state.specs.Reading.{Step, refusalStep, outOf, tickRule, withRule, nextKind, openCall}
+use Rattle.state.specs.Slim.{slimStep}
+use Rattle.state.specs.steps.Parts.{withKind}
 use Rattle.state.specs.declared.Scalars.{Scalars}
 use Rattle.rests.proofs.Slim.{slim-calm, calm-refusal, calm-out}
 

@@ -2,9 +2,9 @@
 // it changes (crate rests). Every public form of reading goes through `open_call`.
 ghost use mathlib.Core.Path.{_≡_};
 ghost use Rattle.kinds.specs.Views.{kindIs};
-ghost use Rattle.state.specs.State.{memory};
 ghost use Rattle.state.specs.Reading.{nextKind, withRule, openCall, goodCall};
-ghost use Rattle.state.specs.Views.{done, slimStep};
+ghost use Rattle.state.specs.Slim.{slimStep};
+ghost use Rattle.state.specs.steps.Inside.{memory, done};
 use kinds::Cid;
 use kinds::Kind;
 use kinds::KindRead;

@@ -6,7 +6,8 @@ use mathlib.Core.List.{List}
 use Rattle.fields.specs.declared.Args.{Args}
 use Rattle.state.specs.State.{Memory}
 use Rattle.state.specs.Reading.{openCall}
-use Rattle.state.specs.Views.{saidIs, slimSaid}
+use Rattle.state.specs.Views.{saidIs}
+use Rattle.state.specs.Slim.{slimSaid}
 use Rattle.state.specs.declared.Scalars.{Scalars}
 use Rattle.state.specs.declared.Event as code
 use Rattle.state.specs.declared.Answer.{Answer}

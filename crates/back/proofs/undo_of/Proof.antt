@@ -6,7 +6,7 @@ use Rattle.back.proofs.undo_of.Statement.{statement}
 use Rattle.back.proofs.undo_of.Tie as tie
 
 change : tie.Need-returns-4
-change c input former =
+change c =
     let g = c .before .event4 .given in
     let k : Three (g .0 .0) (g .0 .1 .0) (g .0 .1 .1 .0) = search needs in
     let x : Same (g .0 .1 .1 .1 .0) = search needs in
@@ -18,12 +18,12 @@ undo-of-spec =
     tie.close
     (tie.spec (λ c. search needs) (λ c. search needs) (λ c. search needs) (λ c. search needs) (λ c. search needs)
     (λ c. search needs) (λ c. search needs)
-    (λ c input former. let g = c .before .event .given in let t : Same (g .0 .0) = search needs in rw (g .1, t))
-    (λ c input former. let g = c .before .event2 .given in let t : Same (g .0 .0) = search needs in rw (g .1, t))
-    (λ c input former. let g = c .before .event3 .given in
+    (λ c. let g = c .before .event .given in let t : Same (g .0 .0) = search needs in rw (g .1, t))
+    (λ c. let g = c .before .event2 .given in let t : Same (g .0 .0) = search needs in rw (g .1, t))
+    (λ c. let g = c .before .event3 .given in
     let k : Three (g .0 .0) (g .0 .1 .0) (g .0 .1 .1 .0) = search needs in rw (g .1, k .first, k .second, k .third))
     change
-    (λ c input former. let g = c .before .event5 .given in
+    (λ c. let g = c .before .event5 .given in
     let k : Three (g .0 .0) (g .0 .1 .0) (g .0 .1 .1 .0) = search needs in rw (g .1, k .first, k .second, k .third))
-    (λ c input former. let g = c .before .event6 .given in let t : Same (g .0 .0) = search needs in rw (g .1, t))
-    (λ c input former. rw (c .enum-told .given .1)))
+    (λ c. let g = c .before .event6 .given in let t : Same (g .0 .0) = search needs in rw (g .1, t))
+    (λ c. rw (c .enum-told .given .1)))

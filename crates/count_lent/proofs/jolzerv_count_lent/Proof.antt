@@ -3,7 +3,7 @@ use Prim.Native.Nat.{_+_, _-_}
 use native.Mathlib.Omega.{arith}
 use borrow.Author.Needs.{needs}
 use mathlib.Core.Path.{_≡_, _∙_}
-use Rattle.state.specs.State.{memory}
+use Rattle.state.specs.steps.Inside.{memory}
 use Rattle.count.specs.Count.{versionIf, most}
 use Rattle.count.proofs.Singles.{Far, far-start, far-full, far-end, far-more}
 use Rattle.count_lent.proofs.Lents.{readerOf, left-is, used-is}

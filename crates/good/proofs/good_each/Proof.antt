@@ -3,7 +3,8 @@ use borrow.Author.Needs.{needs}
 use Prim.Native.Nat.{_≤_, _-_, _+_}
 use mathlib.Core.Path.{_≡_}
 use native.Mathlib.Omega.{arith}
-use Rattle.state.specs.State.{every, goodInput}
+use Rattle.state.specs.State.{every}
+use Rattle.state.specs.steps.Parts.{goodInput}
 use Rattle.good.specs.steps.Blocks.{from}
 use Rattle.state.proofs.Every.{none-yet, one-more, all-tested}
 use Rattle.good.proofs.good_each.Statement.{statement}

@@ -3,7 +3,8 @@ use borrow.Author.Needs.{needs}
 use Prim.Native.Nat.{_≤_, _-_, _+_, _*_}
 use mathlib.Core.Path.{_≡_}
 use native.Mathlib.Omega.{arith}
-use Rattle.state.specs.State.{every, goodInput, goodInputs}
+use Rattle.state.specs.State.{every, goodInputs}
+use Rattle.state.specs.steps.Parts.{goodInput}
 use Rattle.good.proofs.Blocks.{one-block}
 use Rattle.state.proofs.Every.{none-yet, all-tested}
 use Rattle.good.proofs.good_inputs.Statement.{statement}

@@ -5,7 +5,8 @@ use mathlib.Core.Path.{_≡_}
 use native.Mathlib.Omega.{arith}
 use lib.ListN.{getD}
 use lib.IntN.{pos}
-use Rattle.state.specs.State.{every, goodPlayer, goodPlayers}
+use Rattle.state.specs.State.{every, goodPlayers}
+use Rattle.state.specs.steps.Parts.{goodPlayer}
 use Rattle.state.proofs.Numbers.{element}
 use Rattle.state.proofs.Every.{none-yet, one-more, all-tested}
 use Rattle.good.proofs.good_players.Statement.{statement}

@@ -5,7 +5,8 @@ use mathlib.Core.Path.{_≡_}
 use native.Mathlib.Omega.{arith}
 use lib.ListN.{getD}
 use lib.IntN.{pos}
-use Rattle.state.specs.State.{every, zeroAt}
+use Rattle.state.specs.State.{every}
+use Rattle.state.specs.steps.Parts.{zeroAt}
 use Rattle.state.proofs.Numbers.{element}
 use Rattle.state.proofs.Every.{none-yet, one-more, all-tested}
 use Rattle.good.proofs.zeros.Statement.{statement}

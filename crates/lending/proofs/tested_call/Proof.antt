@@ -2,7 +2,7 @@
 use mathlib.Core.Path.{sym, ap, _∙_}
 use borrow.Author.Needs.{needs}
 use borrow.Author.Tests.{not-true, not-false}
-use Rattle.state.specs.Views.{slimStep}
+use Rattle.state.specs.Slim.{slimStep}
 use Rattle.state.proofs.Numbers.{picks-first, picks-second}
 use Rattle.lending.proofs.tested_call.Statement.{statement}
 use Rattle.lending.proofs.tested_call.Tie as tie

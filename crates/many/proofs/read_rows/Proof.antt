@@ -5,7 +5,8 @@ use native.Mathlib.Omega.{arith}
 use borrow.Author.Needs.{needs}
 use mir.Syntax.{w32}
 use mir.Val.{toZ, ofZ}
-use Rattle.state.specs.State.{entriesWith, memory, readerWith}
+use Rattle.state.specs.State.{entriesWith, readerWith}
+use Rattle.state.specs.steps.Inside.{memory}
 use Rattle.calls.specs.Along.{calls}
 use Rattle.many.proofs.Turns.{Going, starts, full, fits, turn, more, finish, refused}
 use Rattle.many.proofs.read_rows.Statement.{statement}

@@ -5,7 +5,7 @@ use lib.ListN.{getD}
 use lib.IntN.{pos}
 use mir.Syntax.{w32}
 use mir.Val.{SFits}
-use Rattle.state.specs.State.{memory}
+use Rattle.state.specs.steps.Inside.{memory}
 use Rattle.state.proofs.Numbers.{back, bits-are, added}
 use Rattle.players.proofs.Cases.{diff-far, diff-away, diff-here}
 use Rattle.players.proofs.player_diff.Statement.{statement}

@@ -1,7 +1,8 @@
 -- `players::player_new` meets its contract. Assumes nothing.
 use borrow.Author.Needs.{needs}
 use mathlib.Core.Path.{_∙_}
-use Rattle.state.specs.State.{memory, withEntries, withPlayer}
+use Rattle.state.specs.State.{withEntries, withPlayer}
+use Rattle.state.specs.steps.Inside.{memory}
 use Rattle.state.proofs.Numbers.{back, bits-are}
 use Rattle.players.proofs.Cases.{new-far, new-here, new-away}
 use Rattle.players.proofs.player_new.Statement.{statement}

@@ -3,7 +3,7 @@ use borrow.Author.Needs.{needs}
 use mathlib.Core.Path.{_∙_}
 use lib.ListN.{getD}
 use lib.IntN.{pos}
-use Rattle.state.specs.State.{memory}
+use Rattle.state.specs.steps.Inside.{memory}
 use Rattle.state.proofs.Numbers.{back, bits-are, element}
 use Rattle.players.proofs.Cases.{old-far, old-away, old-here}
 use Rattle.players.proofs.player_old.Statement.{statement}

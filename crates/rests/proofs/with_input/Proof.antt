@@ -10,9 +10,9 @@ use mir.Val.{toZ, ofZ}
 use Rattle.fields.specs.declared.InputAnswer.the-variants as answers
 use Rattle.item.specs.Records.{readRest}
 use Rattle.kinds.specs.Kinds.{inputKind}
-use Rattle.state.specs.State.{memory}
-use Rattle.state.specs.Reading.{withRest}
-use Rattle.state.specs.Views.{slimStep}
+use Rattle.state.specs.Slim.{slimStep}
+use Rattle.state.specs.steps.Inside.{memory}
+use Rattle.state.specs.steps.Parts.{withRest}
 use Rattle.rests.proofs.Rests.{inputStep, input-rest}
 use Rattle.rests.proofs.with_input.Statement.{statement}
 use Rattle.rests.proofs.with_input.Tie as tie

@@ -6,9 +6,9 @@ use Prim.Native.Nat.{ℕ}
 use lib.IntN.{ℤ}
 use borrow.Author.Needs.{needs}
 use Rattle.item.specs.Records.{readRest}
-use Rattle.state.specs.State.{memory}
-use Rattle.state.specs.Reading.{withRest}
-use Rattle.state.specs.Views.{slimStep}
+use Rattle.state.specs.Slim.{slimStep}
+use Rattle.state.specs.steps.Inside.{memory}
+use Rattle.state.specs.steps.Parts.{withRest}
 use Rattle.state.proofs.Numbers.{Three}
 use Rattle.rests.specs.steps.Kinds.{pairKind}
 use Rattle.rests.proofs.Rests.{pairStep, pair-out, pair-got}

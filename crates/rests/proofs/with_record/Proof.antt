@@ -3,7 +3,7 @@ use mathlib.Core.Path.{_≡_, _∙_}
 use mathlib.Core.Logic.{⊎-elim}
 use mir.Syntax.{w32}
 use mir.Val.{toZ, ofZ}
-use Rattle.state.specs.State.{memory}
+use Rattle.state.specs.steps.Inside.{memory}
 use Rattle.rests.proofs.Rests.{old-rest, finish-rest}
 use borrow.Author.Needs.{needs}
 use Rattle.rests.proofs.with_record.Statement.{statement}

@@ -2,7 +2,8 @@
 use mathlib.Core.Path.{_≡_, sym, ap, _∙_}
 use mir.Syntax.{w32}
 use mir.Val.{toZ, ofZ}
-use Rattle.state.specs.Reading.{nextTick, endsAt}
+use Rattle.state.specs.Reading.{nextTick}
+use Rattle.state.specs.steps.Parts.{endsAt}
 use Rattle.state.specs.declared.Next.the-variants.{Tick, Past}
 use Rattle.state.proofs.Numbers.{back}
 use Rattle.state.proofs.Ticks.{rule-outside, rule-nobody, rule-above, rule-again}

@@ -2,7 +2,8 @@
 use mathlib.Core.Path.{_≡_, sym, ap, _∙_}
 use mir.Syntax.{w32}
 use mir.Val.{toZ, ofZ}
-use Rattle.state.specs.Reading.{nextTick, skipped, tickSkip}
+use Rattle.state.specs.Reading.{nextTick, tickSkip}
+use Rattle.state.specs.steps.Parts.{skipped}
 use Rattle.state.specs.declared.Next.the-variants.{Tick, Past}
 use Rattle.state.proofs.Numbers.{Kept}
 use Rattle.state.proofs.Ticks.{skip-inside, skip-outside}

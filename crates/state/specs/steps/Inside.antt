@@ -1,4 +1,4 @@
--- What functions over a part of the lent memory leave, whatever the rest of it holds; a client without an entry.
+-- What functions leave, of the lent memory or a part of it, whatever the rest holds; a client without an entry.
 use Prim.Native.Nat.{ℕ}
 use mathlib.Core.Path.{_≡_}
 use mathlib.Core.Bool.{cond}
@@ -7,10 +7,18 @@ use lib.Dec.{ltb}
 use lib.IntN.{ℤ}
 use Rattle.refusal.specs.declared.Refusal.{Refusal}
 use Rattle.refusal.specs.declared.Refusal.the-variants.{InvalidClientId}
-use Rattle.state.specs.State.{Memory, memory}
-use Rattle.state.specs.Reading.{Step}
-use Rattle.state.specs.Views.{done}
+use Rattle.state.specs.State.{Memory, entriesWith}
+use Rattle.state.specs.Reading.{Step, stepOf}
+use Rattle.state.specs.Views.{saidIs}
 use Rattle.state.specs.declared.Outcome.{Outcome}
+
+-- the arrays that are lent, as one
+abbrev pub memory : List ℕ → List ℤ → List ℤ → List ℕ → List ℤ → List ℤ → List ℤ → Memory
+memory marks xs ys held inputs ten former =
+    record { entries = entriesWith marks xs ys held inputs; input = ten; former = former }
+
+abbrev pub done : Outcome → Memory → Step
+done o m = stepOf (saidIs (o .answer)) (o .scalars) m
 
 -- of the player entries: the three arrays as they were, and as they are left
 abbrev pub OnPlayers : (Memory → Step) → Outcome → List ℕ → List ℤ → List ℤ → List ℕ → List ℤ → List ℤ → Type 0

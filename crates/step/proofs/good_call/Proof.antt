@@ -1,7 +1,7 @@
 -- `step::good_call` meets its contract. Assumes nothing.
 use mathlib.Core.Path.{ap, _∙_}
 use Rattle.state.specs.Reading.{goodCall}
-use Rattle.state.specs.Views.{slimStep}
+use Rattle.state.specs.Slim.{slimStep}
 use Rattle.state.proofs.Numbers.{picks-first, picks-second}
 use borrow.Author.Needs.{needs}
 use Rattle.step.proofs.good_call.Statement.{statement}

@@ -1,6 +1,6 @@
 -- `step::open_call` meets its contract. Assumes nothing.
 use mathlib.Core.Path.{_≡_, sym, ap, _∙_}
-use Rattle.state.specs.State.{memory}
+use Rattle.state.specs.steps.Inside.{memory}
 use Rattle.step.proofs.Calls.{kind-got, kind-out, kind-refused}
 use borrow.Author.Needs.{needs}
 use Rattle.step.proofs.open_call.Statement.{statement}

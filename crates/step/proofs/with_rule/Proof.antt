@@ -2,7 +2,8 @@
 use mathlib.Core.Path.{_≡_, sym, _∙_}
 use mir.Syntax.{w32}
 use mir.Val.{toZ, ofZ}
-use Rattle.state.specs.State.{Memory, memory}
+use Rattle.state.specs.State.{Memory}
+use Rattle.state.specs.steps.Inside.{memory}
 use Rattle.rests.proofs.Slim.{slim-calm, calm-refusal}
 use Rattle.refusal.specs.declared.Refusal.the-variants.{TickOverflow}
 use borrow.Author.Needs.{needs}

@@ -1,0 +1,34 @@
+-- A reading call without a command's arguments.
+use Rattle.item.specs.Said.{Said, gives, more, finish, refuses}
+use Rattle.item.specs.Contents.{ownContent}
+use Rattle.state.specs.Reading.{
+  Event,
+  tickStart,
+  tickEnd,
+  playerNew,
+  playerChange,
+  playerOld,
+  input,
+  other,
+  Step,
+  stepOf,
+}
+
+-- an event without the arguments that stand beside a record
+abbrev pub slim : Event → Event
+slim (tickStart t) = tickStart t
+slim (tickEnd t) = tickEnd t
+slim (playerNew c x y) = playerNew c x y
+slim (playerChange c x y old-x old-y) = playerChange c x y old-x old-y
+slim (playerOld c x y) = playerOld c x y
+slim (input c former) = input c former
+slim (other c) = other (ownContent c)
+
+abbrev pub slimSaid : Said Event → Said Event
+slimSaid (gives e used) = gives (slim e) used
+slimSaid more = more
+slimSaid (finish used) = finish used
+slimSaid (refuses n vs) = refuses n vs
+
+abbrev pub slimStep : Step → Step
+slimStep t = stepOf (slimSaid (t .said)) (t .scalars) (t .memory)
