@@ -63,8 +63,8 @@ fn print_inp(cid: i32, found: InputOf) {
 
 // What a client has.
 fn print_client(reader: Reader, cid: i32) {
-    print_pos(cid, reader::player_pos(reader, cid));
-    print_inp(cid, reader::input(reader, cid));
+    print_pos(cid, queries::player_pos(reader, cid));
+    print_inp(cid, queries::input(reader, cid));
 }
 
 // A number that fits an i32, else -1.
@@ -103,7 +103,7 @@ fn print_board(reader: Reader) {
     print_client(reader, -1);
     print_clients(reader);
     print_client(reader, 2147483647);
-    print_cids(reader::cids(reader));
+    print_cids(queries::cids(reader));
 }
 
 // A reader, its place in the body, and whether the body is read.

@@ -11,8 +11,8 @@ use kinds::Version;
 use libc::STDOUT_FILENO;
 use packer::Part;
 use packer::PartRead;
-use records::CallAnswer;
-use records::RecordCall;
+use record_call::CallAnswer;
+use record_call::RecordCall;
 use refusal::Refusal;
 use shapes::Fields;
 
@@ -335,8 +335,8 @@ fn version_of(b: u8) -> Version {
 }
 
 fn run_case(version: Version, w: &[u8]) {
-    let off = records::record_call(version, w, false);
-    let on = records::record_call(version, w, true);
+    let off = record_call::record_call(version, w, false);
+    let on = record_call::record_call(version, w, true);
     let a = off.answer;
     let b = on.answer;
     print_call(w, off);

@@ -193,7 +193,7 @@ fn say_board(board: Board) {
 
 // A step back of a board in tick 7 over the tick's start: a refusal changes nothing.
 fn step(board: Board) {
-    let stepped = back::step_back(board, Event::TickStart(7), [0; 10], [11; 10]);
+    let stepped = stepping::step_back(board, Event::TickStart(7), [0; 10], [11; 10]);
     let answer = stepped.answer;
     let before = stepped.board;
     let BackAnswer::Refused(r) = answer else {

@@ -81,7 +81,7 @@ fn undone(board: Board, read: ReadAnswer) -> SteppedBack {
     let input = read.input;
     let former = read.former;
     match answer {
-        Answer::Event { event, used: _ } => back::step_back(board, event, input, former),
+        Answer::Event { event, used: _ } => stepping::step_back(board, event, input, former),
         Answer::More => refuse(board),
         Answer::Finish { used: _ } => refuse(board),
         Answer::Refused(_) => refuse(board),

@@ -10,7 +10,7 @@ use kinds::Version;
 use libc::STDOUT_FILENO;
 use packer::Part;
 use packer::PartRead;
-use records::CallAnswer;
+use record_call::CallAnswer;
 use varint::Wrote;
 
 fn say(text: &[u8]) {
@@ -394,7 +394,7 @@ fn identifiers() {
 }
 
 fn run_case(version: Version, w: &[u8]) {
-    let call = records::record_call(version, w, true);
+    let call = record_call::record_call(version, w, true);
     let answer = call.answer;
     let value = call.value;
     match answer {
