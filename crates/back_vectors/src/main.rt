@@ -134,7 +134,7 @@ fn say_board(board: Board) {
 }
 
 fn step(board: Board, event: Event, input: [i32; 10]) {
-    let stepped = back::step_back(board, event, input, [11; 10]);
+    let stepped = stepping::step_back(board, event, input, [11; 10]);
     let answer = stepped.answer;
     let before = stepped.board;
     match answer {

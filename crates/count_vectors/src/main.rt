@@ -3,7 +3,7 @@
 // (version, tick, largest client), `good a b` (1 if the reader is good; the same of that reader at tick -1) and `events n n n`.
 use kinds::Version;
 use libc::STDOUT_FILENO;
-use reader::WantedAnswer;
+use queries::WantedAnswer;
 use state::Reader;
 use texts::Text;
 
@@ -40,8 +40,8 @@ fn print_reader(version: i32, tick: i32, largest: i32) {
 }
 
 fn print_good(reader: Reader) {
-    let fine = flag(reader::is_good(reader));
-    let spoilt = flag(reader::is_good(bad(reader)));
+    let fine = flag(queries::is_good(reader));
+    let spoilt = flag(queries::is_good(bad(reader)));
     print(texts::plain(b"good", &[fine, spoilt]));
 }
 
@@ -65,7 +65,7 @@ fn run_case(input: &[u8]) {
     if input.len() == 0 {
         return;
     }
-    let wanted = reader::wanted(cases::first(input));
+    let wanted = queries::wanted(cases::first(input));
     let answer = wanted.answer;
     let reader = wanted.reader;
     match answer {

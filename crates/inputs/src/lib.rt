@@ -66,11 +66,11 @@ pub fn input_diff(
 {
     let bits = num::bits(cid);
     if 128 <= bits {
-        return state::refuse(s, state::no_entry(bits, Refusal::InputDiffWithoutNew));
+        return ticks::refuse(s, ticks::no_entry(bits, Refusal::InputDiffWithoutNew));
     }
     let c = bits as usize;
     if held[c] != 1 {
-        return state::refuse(s, Refusal::InputDiffWithoutNew);
+        return ticks::refuse(s, Refusal::InputDiffWithoutNew);
     }
     let old = take_ten(&*inputs, c);
     let new = add_ten(old, ds);
@@ -78,7 +78,7 @@ pub fn input_diff(
     *input = new;
     *former = old;
     held[c] = 1;
-    state::gave(Event::Input { cid, former: true }, used, s)
+    ticks::gave(Event::Input { cid, former: true }, used, s)
 }
 
 pub fn input_new(
@@ -95,7 +95,7 @@ pub fn input_new(
 {
     let bits = num::bits(cid);
     if 128 <= bits {
-        return state::refuse(s, state::no_entry(bits, Refusal::ClientTooLarge));
+        return ticks::refuse(s, ticks::no_entry(bits, Refusal::ClientTooLarge));
     }
     let c = bits as usize;
     let mark = held[c];
@@ -108,7 +108,7 @@ pub fn input_new(
         cid,
         former: mark == 1,
     };
-    state::gave(event, used, s)
+    ticks::gave(event, used, s)
 }
 
 // The ten numbers of a client; zeros where it has no entry.

@@ -28,7 +28,7 @@ fn tested_call(
         ≡ slimStep (callOn s (memory (now (marks .entry)) (now (xs .entry)) (now (ys .entry)) (now (held .entry)) (now (inputs .entry)) (now (input .entry)) (now (former .entry))) (now (w .entry)) last)
         ⌝ }
 {
-    if !good::good_state(s, marks, xs, ys, held, inputs) {
+    if !good_reader::good_state(s, marks, xs, ys, held, inputs) {
         return Outcome {
             answer: Answer::Refused(Refusal::BadState),
             scalars: s,

@@ -126,7 +126,7 @@ fn put_word(word: &[u8], out: &mut [u8], at: usize) -> usize
     requires { ⌜ at + length (now word) ≤ length (now out) ⌝ }
     ensures { λ r. ⌜ PutsText (now (out .entry)) at (now (word .entry)) r (now (out .exit)) ⌝ }
 {
-    let Wrote::Past(next) = packer::write_raw(word, out, at) else {
+    let Wrote::Past(next) = text_writer::write_raw(word, out, at) else {
         return at;
     };
     next

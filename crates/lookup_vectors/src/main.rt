@@ -68,8 +68,8 @@ fn look(reader: Reader, cid: i32, on_board: bool) -> Found {
         };
     }
     Found {
-        pos: reader::player_pos(reader, cid),
-        input: reader::input(reader, cid),
+        pos: queries::player_pos(reader, cid),
+        input: queries::input(reader, cid),
     }
 }
 
@@ -121,7 +121,7 @@ fn print_board(reader: Reader, on_board: bool) {
     print_client(reader, -1, on_board);
     print_clients(reader, on_board);
     print_client(reader, 2147483647, on_board);
-    print_cids(reader::cids(reader));
+    print_cids(queries::cids(reader));
 }
 
 // A reader, its place in the body, and whether the body is read.

@@ -183,7 +183,10 @@ pub fn read_many(
 {
     let scalars = reader.scalars;
     let entries = reader.entries;
-    if !good::both(good::good_scalars(scalars), good::good_entries(entries)) {
+    if !good::both(
+        good_reader::good_scalars(scalars),
+        good::good_entries(entries),
+    ) {
         return unread(Stop::Refused(Refusal::BadState), reader);
     }
     if scalars.closed {

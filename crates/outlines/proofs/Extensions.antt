@@ -32,12 +32,12 @@ use Rattle.written.specs.Form.{payloadWritable}
 use Rattle.extensions.specs.steps.Layouts.{payloadIs}
 use Rattle.extensions.specs.declared.Layout.{Layout}
 use Rattle.extensions.specs.declared.Layout.the-variants as layouts
-use Rattle.outlines.specs.steps.Pieces.{planWith, planOf, payloadPlan, piecesBytes, piecesOk, planPieces, piecesOf}
+use Rattle.pieces.specs.steps.Pieces.{planWith, planOf, payloadPlan, piecesBytes, piecesOk, planPieces, piecesOf}
 use Rattle.outlines.specs.steps.Outlines.{outlineWith, unwritable, exNumber, contentOk, contentBytes, Outlines}
-use Rattle.outlines.specs.declared.Piece.{Piece}
-use Rattle.outlines.specs.declared.Piece.the-variants.{Empty, Int, Raw, Data, Id}
-use Rattle.outlines.specs.declared.Tail.the-variants.{Nothing}
-use Rattle.outlines.specs.declared.Plan.{Plan}
+use Rattle.pieces.specs.declared.Piece.{Piece}
+use Rattle.pieces.specs.declared.Piece.the-variants.{Empty, Int, Raw, Data, Id}
+use Rattle.pieces.specs.declared.Tail.the-variants.{Nothing}
+use Rattle.pieces.specs.declared.Plan.{Plan}
 use Rattle.outlines.proofs.Tests.{one-text, two-parts}
 
 module _ (s : List ℕ) (c : Content Part) (ten : List ℤ) (xs : Args) where

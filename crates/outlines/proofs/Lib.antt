@@ -1,4 +1,3 @@
-pub mod Pieces
 pub mod Tests
 pub mod Plain
 pub mod Extensions

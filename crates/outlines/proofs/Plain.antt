@@ -25,9 +25,9 @@ use Rattle.kinds.specs.declared.Kind.{Kind}
 use Rattle.kinds.specs.declared.Kind.the-variants as kinds
 use Rattle.item.specs.declared.Tag.the-variants.{Plain}
 use Rattle.written.proofs.Unwritable.{ints-inside, few-args}
-use Rattle.outlines.specs.steps.Pieces.{pieceBytes, pieceOk, piecesBytes, piecesOk, argumentsIn, piecesOf}
+use Rattle.pieces.specs.steps.Pieces.{pieceBytes, pieceOk, piecesBytes, piecesOk, argumentsIn, piecesOf}
 use Rattle.outlines.specs.steps.Outlines.{checkedPiece, countPiece, kindOutline, contentOk, contentBytes, Outlines}
-use Rattle.outlines.specs.declared.Tail.the-variants.{Arguments}
+use Rattle.pieces.specs.declared.Tail.the-variants.{Arguments}
 use Rattle.outlines.proofs.Tests.{one-text, command, small-dt, dt-is, ints-ok, ten-writable, ten-written, strings-ok, strings-written}
 
 module _ (s : List ℕ) where

@@ -18,8 +18,8 @@ use Rattle.fields.specs.Fields.{int, num, mean}
 use Rattle.fields.specs.Views.{tenFields}
 use Rattle.fields.specs.Writing.{stringsBytes, allNoZero, writeFields, inside, allInside}
 use Rattle.fields.specs.Forms.{allWritable}
-use Rattle.outlines.specs.steps.Pieces.{piecesBytes, piecesOk, numberPieces}
-use Rattle.outlines.specs.declared.Piece.the-variants.{Str}
+use Rattle.pieces.specs.steps.Pieces.{piecesBytes, piecesOk, numberPieces}
+use Rattle.pieces.specs.declared.Piece.the-variants.{Str}
 
 pub crossed : (a b x y : Bool) → (a && b) && (x && y) ≡ (a && x) && (b && y)
 crossed false b x y = refl

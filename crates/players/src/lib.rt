@@ -21,11 +21,11 @@ pub fn player_diff(
 {
     let bits = num::bits(cid);
     if 128 <= bits {
-        return state::refuse(s, Refusal::PlayerDiffWithoutNew);
+        return ticks::refuse(s, Refusal::PlayerDiffWithoutNew);
     }
     let i = bits as usize;
     if marks[i] != 1 {
-        return state::refuse(s, Refusal::PlayerDiffWithoutNew);
+        return ticks::refuse(s, Refusal::PlayerDiffWithoutNew);
     }
     let old_x = xs[i];
     let old_y = ys[i];
@@ -40,7 +40,7 @@ pub fn player_diff(
         old_x,
         old_y,
     };
-    state::gave(event, used, s)
+    ticks::gave(event, used, s)
 }
 
 pub fn player_new(
@@ -57,7 +57,7 @@ pub fn player_new(
 {
     let bits = num::bits(cid);
     if 128 <= bits {
-        return state::refuse(s, state::no_entry(bits, Refusal::ClientTooLarge));
+        return ticks::refuse(s, ticks::no_entry(bits, Refusal::ClientTooLarge));
     }
     let i = bits as usize;
     let mark = marks[i];
@@ -65,9 +65,9 @@ pub fn player_new(
     xs[i] = x;
     ys[i] = y;
     if mark == 1 {
-        return state::refuse(s, Refusal::PlayerNewDuplicate);
+        return ticks::refuse(s, Refusal::PlayerNewDuplicate);
     }
-    state::gave(Event::PlayerNew { cid, x, y }, used, s)
+    ticks::gave(Event::PlayerNew { cid, x, y }, used, s)
 }
 
 pub fn player_old(
@@ -82,16 +82,16 @@ pub fn player_old(
 {
     let bits = num::bits(cid);
     if 128 <= bits {
-        return state::refuse(s, state::no_entry(bits, Refusal::PlayerOldWithoutNew));
+        return ticks::refuse(s, ticks::no_entry(bits, Refusal::PlayerOldWithoutNew));
     }
     let i = bits as usize;
     if marks[i] != 1 {
-        return state::refuse(s, Refusal::PlayerOldWithoutNew);
+        return ticks::refuse(s, Refusal::PlayerOldWithoutNew);
     }
     let x = xs[i];
     let y = ys[i];
     marks[i] = 0;
     xs[i] = 0;
     ys[i] = 0;
-    state::gave(Event::PlayerOld { cid, x, y }, used, s)
+    ticks::gave(Event::PlayerOld { cid, x, y }, used, s)
 }

@@ -17,9 +17,9 @@ use Rattle.fields.specs.Fields.{Reading, got, runsOut, refused}
 use Rattle.item.specs.Records.{Content, meaning}
 use Rattle.item.specs.Contents.{recordOf}
 use Rattle.item.specs.declared.Record.{Record}
-use Rattle.records.specs.Calls.{saidBy}
-use Rattle.records.specs.declared.CallAnswer.{CallAnswer}
-use Rattle.records.specs.declared.CallAnswer.the-variants as calls
+use Rattle.record_call.specs.Calls.{saidBy}
+use Rattle.record_call.specs.declared.CallAnswer.{CallAnswer}
+use Rattle.record_call.specs.declared.CallAnswer.the-variants as calls
 use Rattle.written.specs.Laws.{meant}
 
 -- ---- a writer

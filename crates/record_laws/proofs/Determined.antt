@@ -10,10 +10,10 @@ use Rattle.item.specs.Contents.{recordOf}
 use Rattle.item.specs.declared.Record.{Record}
 use Rattle.views.proofs.Refusals.{same-refusal}
 use Rattle.views.proofs.Records.{records-shown}
-use Rattle.records.specs.Calls.{saidBy, tidySaid}
-use Rattle.records.specs.declared.CallAnswer.{CallAnswer}
-use Rattle.records.specs.declared.CallAnswer.the-variants as calls
-use Rattle.records.specs.declared.RecordCall.{RecordCall}
+use Rattle.record_call.specs.Calls.{saidBy, tidySaid}
+use Rattle.record_call.specs.declared.CallAnswer.{CallAnswer}
+use Rattle.record_call.specs.declared.CallAnswer.the-variants as calls
+use Rattle.record_call.specs.declared.RecordCall.{RecordCall}
 use Rattle.record_laws.specs.Laws.{CallDetermined, WriteDetermined}
 
 same-call : (a b : CallAnswer) (r q : Record) → saidBy a r ≡ saidBy b q → tidySaid a r ≡ r → tidySaid b q ≡ q → (a ≡ b) × (r ≡ q)

@@ -12,10 +12,10 @@ use Rattle.item.specs.Records.{meaning, readRecord, recordCall}
 use Rattle.item.specs.Contents.{recordOf}
 use Rattle.kinds.specs.declared.Version.{Version}
 use Rattle.item.specs.declared.Record.{Record}
-use Rattle.records.specs.Calls.{saidBy, tidySaid, Called}
-use Rattle.records.specs.declared.CallAnswer.{CallAnswer}
-use Rattle.records.specs.declared.CallAnswer.the-variants as calls
-use Rattle.records.specs.declared.RecordCall.{RecordCall}
+use Rattle.record_call.specs.Calls.{saidBy, tidySaid, Called}
+use Rattle.record_call.specs.declared.CallAnswer.{CallAnswer}
+use Rattle.record_call.specs.declared.CallAnswer.the-variants as calls
+use Rattle.record_call.specs.declared.RecordCall.{RecordCall}
 use Rattle.written.specs.Written.{recordBytes}
 use Rattle.written.specs.Unwritable.{recordWritable}
 use Rattle.written.specs.Laws.{TypedRecord}

@@ -20,9 +20,9 @@ use Rattle.item.specs.Contents.{recordOf}
 use Rattle.kinds.specs.declared.Version.{Version}
 use Rattle.item.specs.declared.Record.{Record}
 use Rattle.causes.specs.Causes.{RecordRefused}
-use Rattle.records.specs.Calls.{Called}
-use Rattle.records.specs.declared.CallAnswer.the-variants.{Got}
-use Rattle.records.specs.declared.RecordCall.{RecordCall}
+use Rattle.record_call.specs.Calls.{Called}
+use Rattle.record_call.specs.declared.CallAnswer.the-variants.{Got}
+use Rattle.record_call.specs.declared.RecordCall.{RecordCall}
 use Rattle.written.specs.Unwritable.{Writes}
 use Rattle.written.specs.Laws.{TypedRecord}
 

@@ -10,8 +10,8 @@ use kinds::Cid;
 use kinds::Version;
 use libc::STDOUT_FILENO;
 use packer::Part;
-use records::CallAnswer;
-use records::RecordCall;
+use record_call::CallAnswer;
+use record_call::RecordCall;
 use refusal::Refusal;
 use shapes::Fields;
 
@@ -317,13 +317,13 @@ fn version_of(b: u8) -> Version {
 
 // The answer with the flag on.
 fn answer_on(version: Version, w: &[u8]) -> CallAnswer {
-    let call = records::record_call(version, w, true);
+    let call = record_call::record_call(version, w, true);
     let answer = call.answer;
     answer
 }
 
 fn call_twice(version: Version, w: &[u8]) {
-    let off = records::record_call(version, w, false);
+    let off = record_call::record_call(version, w, false);
     let answer = off.answer;
     print_call(w, off);
     if !flag_agrees(answer, answer_on(version, w)) {

@@ -11,10 +11,10 @@ use Rattle.num.proofs.Cases.{by-bool}
 use Rattle.extensions.specs.Extensions.{idAt}
 use Rattle.extensions.specs.declared.Extension.{Extension}
 use Rattle.ids.proofs.Table.{id-length}
-use Rattle.outlines.specs.steps.Pieces.{pieceBytes, pieceOk, piecesBytes, piecesOk}
-use Rattle.outlines.specs.declared.Piece.{Piece}
-use Rattle.outlines.specs.declared.Piece.the-variants.{Empty}
-use Rattle.outlines.proofs.Pieces.{bytes-next, ok-next}
+use Rattle.pieces.specs.steps.Pieces.{pieceBytes, pieceOk, piecesBytes, piecesOk}
+use Rattle.pieces.specs.declared.Piece.{Piece}
+use Rattle.pieces.specs.declared.Piece.the-variants.{Empty}
+use Rattle.pieces.proofs.Pieces.{bytes-next, ok-next}
 use Rattle.record_writer.specs.steps.Room.{roomAfter, leftAfter}
 use Rattle.record_writer.specs.declared.Left.{Left}
 use Rattle.record_writer.specs.declared.Left.the-variants.{Room, Short, Unwritable}

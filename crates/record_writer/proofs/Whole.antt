@@ -15,9 +15,9 @@ use Rattle.written.specs.Written.{writeContent, recordBytes}
 use Rattle.written.specs.Form.{contentWritable, hasForm}
 use Rattle.written.specs.Unwritable.{recordWritable, Writes}
 use Rattle.written.proofs.Unwritable.{writable-is-form}
-use Rattle.outlines.specs.steps.Pieces.{piecesOf, piecesOk, piecesBytes}
+use Rattle.pieces.specs.steps.Pieces.{piecesOf, piecesOk, piecesBytes}
 use Rattle.outlines.specs.steps.Outlines.{contentOk, contentBytes, Outlines}
-use Rattle.outlines.specs.declared.Outline.{Outline}
+use Rattle.pieces.specs.declared.Outline.{Outline}
 
 -- what can't be written leaves the target, whatever its bytes
 same-writes : (xs : List ℕ) (at : ℕ) (ok ok' : Bool) (a b : List ℕ) → ok ≡ ok' → (ok' ≡ true → a ≡ b)

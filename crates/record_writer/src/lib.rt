@@ -7,7 +7,7 @@ ghost use Rattle.extensions.specs.Extensions.{idAt};
 ghost use Rattle.item.specs.steps.Taken.{fromFields};
 ghost use Rattle.item.specs.declared.Tag.the-variants.{Named};
 ghost use Rattle.written.specs.Unwritable.{Writes};
-ghost use Rattle.outlines.specs.steps.Pieces.{pieceOk, pieceBytes, piecesOf, piecesOk, piecesBytes};
+ghost use Rattle.pieces.specs.steps.Pieces.{pieceOk, pieceBytes, piecesOf, piecesOk, piecesBytes};
 ghost use Rattle.outlines.specs.steps.Outlines.{Outlines};
 ghost use Rattle.record_writer.specs.steps.Room.{leftAfter, roomAt};
 ghost use Rattle.record_writer.specs.steps.Puts.{pastOf, HasRoom, Ready, PutsBytes};
@@ -16,9 +16,9 @@ use fields::Args;
 use item::Record;
 use item::Tag;
 use kinds::Version;
-use outlines::Outline;
-use outlines::Piece;
 use packer::Part;
+use pieces::Outline;
+use pieces::Piece;
 use refusal::Refusal;
 use shapes::Fields;
 use varint::Wrote;
@@ -77,7 +77,7 @@ fn left_data(left: Left, s: &[u8], p: Part) -> Left
     left_after(
         left,
         is_inside(s, p),
-        varint::int_size(b.len() as i32) + b.len(),
+        int_writer::int_size(b.len() as i32) + b.len(),
     )
 }
 
@@ -87,13 +87,13 @@ fn left_piece(left: Left, s: &[u8], piece: Piece) -> Left
     match piece {
         Piece::Empty => left,
         Piece::Never => Left::Unwritable,
-        Piece::Int(value) => left_after(left, true, varint::int_size(value)),
+        Piece::Int(value) => left_after(left, true, int_writer::int_size(value)),
         Piece::Raw(p) => left_after(left, is_inside(s, p), packer::show(s, p).len()),
         Piece::Str(p) => {
             let b = packer::show(s, p);
             left_after(
                 left_after(left, is_inside(s, p), b.len()),
-                packer::no_zero(b),
+                text_writer::no_zero(b),
                 1,
             )
         }
@@ -109,9 +109,9 @@ fn measure(room: Left, o: Outline, s: &[u8], ten: [i32; 10], args: Args) -> Left
     let mut left = room;
     let mut i = 0;
     let tail = o.tail;
-    let end = outlines::past_pieces(tail);
+    let end = pieces::past_pieces(tail);
     while i < end {
-        left = left_piece(left, s, outlines::piece_at(o, ten, args, i));
+        left = left_piece(left, s, pieces::piece_at(o, ten, args, i));
         i += 1;
     }
     left
@@ -131,7 +131,7 @@ fn named_outline(
     ensures { λ r. ⌜ Outlines version (now (s .entry)) (fromFields (Named which) f) ten args r ⌝ }
 {
     let none = Piece::Empty;
-    let plan = outlines::payload_plan(extensions::payload_of(which), f);
+    let plan = pieces::payload_plan(extensions::payload_of(which), f);
     let data = outlines::outline_with(none, none, none, plan);
     let left = measure(Left::Room(2147483647), data, s, ten, args);
     match left {
@@ -198,10 +198,10 @@ fn write_piece(s: &[u8], piece: Piece, out: &mut [u8], at: usize) -> Wrote
     match piece {
         Piece::Empty => Wrote::Past(at),
         Piece::Never => Wrote::Past(at),
-        Piece::Int(value) => varint::write_int(value, out, at),
-        Piece::Raw(p) => packer::write_raw(packer::show(s, p), out, at),
-        Piece::Str(p) => packer::write_string(packer::show(s, p), out, at),
-        Piece::Data(p) => packer::write_data(packer::show(s, p), out, at),
+        Piece::Int(value) => int_writer::write_int(value, out, at),
+        Piece::Raw(p) => text_writer::write_raw(packer::show(s, p), out, at),
+        Piece::Str(p) => text_writer::write_string(packer::show(s, p), out, at),
+        Piece::Data(p) => text_writer::write_data(packer::show(s, p), out, at),
         Piece::Id(which) => Wrote::Past(put_id(which, out, at)),
     }
 }
@@ -212,12 +212,12 @@ fn put_pieces(o: Outline, s: &[u8], ten: [i32; 10], args: Args, out: &mut [u8], 
     ensures { λ r. ⌜ PutsBytes (now (out .entry)) at (piecesBytes (now (s .entry)) (piecesOf o ten args)) r (now (out .exit)) ⌝ }
 {
     let tail = o.tail;
-    let end = outlines::past_pieces(tail);
+    let end = pieces::past_pieces(tail);
     let mut next = at;
     let mut i = 0;
     while i < end {
         next = past(
-            write_piece(s, outlines::piece_at(o, ten, args, i), out, next),
+            write_piece(s, pieces::piece_at(o, ten, args, i), out, next),
             next,
         );
         i += 1;

@@ -2,4 +2,3 @@ pub mod Rests
 pub mod Inputs
 pub mod Commands
 pub mod Beside
-pub mod Calls

@@ -1,4 +1,4 @@
-// Reading records (format/item.rs): the rest of a record of a kind, and the record call.
+// Reading records (format/item.rs): the rest of a record of a kind, and a whole record.
 ghost use mathlib.Core.Path.{_≡_};
 ghost use mathlib.Core.Bool.{true};
 ghost use Rattle.fields.specs.Fields.{readFields};
@@ -7,9 +7,8 @@ ghost use Rattle.item.specs.Records.{readEx, readRest};
 ghost use Rattle.item.specs.Contents.{itemOf, ownFields, recordWith, noArgs};
 ghost use Rattle.item.specs.steps.Taken.{fromFields};
 ghost use Rattle.item.specs.declared.Tag.the-variants.{Plain};
-ghost use Rattle.records.specs.steps.Views.{itemIs, own, readIs, restCode, isShaped, recordRead, inputItem, headIs, commandRead, wholeOf, saidOf, RestRead, RecordAt};
+ghost use Rattle.records.specs.steps.Views.{itemIs, own, readIs, restCode, isShaped, recordRead, inputItem, headIs, commandRead, wholeOf, RestRead, RecordAt};
 ghost use Rattle.kinds.specs.Kinds.{inputKind};
-ghost use Rattle.records.specs.Calls.{Called};
 use extension_records::ExRead;
 use fields::Args;
 use fields::ArgsAnswer;
@@ -364,37 +363,8 @@ pub fn read_item(kind: Kind, s: &[u8], at: usize) -> ItemRead
     }
 }
 
-// What the record call answers: the bytes used, more, or a refusal.
-pub enum CallAnswer {
-    Got(usize),
-    More,
-    Refused(Refusal),
-}
-
-// The record stands beside the answer; it is a blank one where there is none.
-pub struct RecordCall {
-    pub answer: CallAnswer,
-    pub value: Record,
-}
-
-// What is said of a record that was read, or of one whose bytes run out.
-fn said_of(answer: RecordAnswer, last: bool) -> CallAnswer
-    ensures { λ r. ⌜ r ≡ saidOf answer last ⌝ }
-{
-    match answer {
-        RecordAnswer::Got(next) => CallAnswer::Got(next),
-        RecordAnswer::RunsOut => {
-            if last {
-                return CallAnswer::Refused(Refusal::UnexpectedEnd);
-            }
-            CallAnswer::More
-        }
-        RecordAnswer::Refused(r) => CallAnswer::Refused(r),
-    }
-}
-
 // A record at the start of the window.
-fn read_record(version: Version, s: &[u8]) -> RecordRead
+pub fn read_record(version: Version, s: &[u8]) -> RecordRead
     ensures { λ r. ⌜ RecordAt version (now (s .entry)) r ⌝ }
 {
     let read = kinds::read_kind(version, s, 0);
@@ -402,18 +372,5 @@ fn read_record(version: Version, s: &[u8]) -> RecordRead
         KindRead::Got { kind, next } => read_rest(kind, s, next),
         KindRead::RunsOut => alone(RecordAnswer::RunsOut, Item::Finish),
         KindRead::Refused(r) => alone(RecordAnswer::Refused(r), Item::Finish),
-    }
-}
-
-// The record call: the window begins at a record; last says that no more bytes come.
-pub fn record_call(version: Version, s: &[u8], last: bool) -> RecordCall
-    ensures { λ r. ⌜ Called version (now (s .entry)) last r ⌝ }
-{
-    let read = read_record(version, s);
-    let answer = read.answer;
-    let value = read.value;
-    RecordCall {
-        answer: said_of(answer, last),
-        value,
     }
 }

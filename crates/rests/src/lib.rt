@@ -42,9 +42,9 @@ fn with_pair(
         next,
     } = shapes::read_pair(w, at)
     else {
-        return state::run_out(s, last);
+        return ticks::run_out(s, last);
     };
-    let t = state::named(s, cid);
+    let t = ticks::named(s, cid);
     if new {
         return players::player_new(t, marks, xs, ys, cid, first, second, next);
     }
@@ -60,12 +60,12 @@ fn with_skip(s: Scalars, w: &[u8], at: usize, last: bool) -> Outcome
         remark: _,
     } = varint::read_int(w, at)
     else {
-        return state::run_out(s, last);
+        return ticks::run_out(s, last);
     };
     if value < 0 {
-        return state::refuse(s, Refusal::NegativeDt);
+        return ticks::refuse(s, Refusal::NegativeDt);
     }
-    state::tick_skip(s, value as u32, next)
+    ticks::tick_skip(s, value as u32, next)
 }
 
 // InputNew or InputDiff.
@@ -86,9 +86,9 @@ fn with_input(
     let answer = read.answer;
     let numbers = read.input;
     let InputAnswer::Got { cid, next } = answer else {
-        return state::run_out(s, last);
+        return ticks::run_out(s, last);
     };
-    let t = state::raised(s, Cid::Of(cid));
+    let t = ticks::raised(s, Cid::Of(cid));
     if new {
         return inputs::input_new(t, held, inputs, input, former, cid, numbers, next);
     }
@@ -103,18 +103,18 @@ fn with_other(s: Scalars, kind: Kind, w: &[u8], at: usize, last: bool) -> Outcom
     let read = records::read_item(kind, w, at);
     match read {
         ItemRead::Got { item, next } => {
-            let scalars = state::raised(s, item.cid());
-            state::gave(Event::Record(item), next, scalars)
+            let scalars = ticks::raised(s, item.cid());
+            ticks::gave(Event::Record(item), next, scalars)
         }
-        ItemRead::RunsOut => state::run_out(s, last),
-        ItemRead::Refused(r) => state::refuse(s, r),
+        ItemRead::RunsOut => ticks::run_out(s, last),
+        ItemRead::Refused(r) => ticks::refuse(s, r),
     }
 }
 
 fn finished(s: Scalars, used: usize) -> Outcome
     ensures { λ r. ⌜ ((m : Memory) → done r m ≡ stepOf (finish used) (closing s) m) ⌝ }
 {
-    let scalars = state::closed(s);
+    let scalars = ticks::closed(s);
     Outcome {
         answer: Answer::Finish { used },
         scalars,
@@ -148,7 +148,7 @@ pub fn with_record(
         Kind::TickSkip => return with_skip(s, w, at, last),
         Kind::PlayerNew(cid) => return with_pair(s, marks, xs, ys, true, cid, w, at, last),
         Kind::PlayerOld(cid) => {
-            return players::player_old(state::named(s, cid), marks, xs, ys, cid, at);
+            return players::player_old(ticks::named(s, cid), marks, xs, ys, cid, at);
         }
         Kind::InputDiff => return with_input(s, held, inputs, input, former, false, w, at, last),
         Kind::InputNew => return with_input(s, held, inputs, input, former, true, w, at, last),

@@ -64,18 +64,18 @@ fn with_rule(
             at,
             last,
         ),
-        Rule::Starts => state::gave(Event::TickStart(tick), at, state::started(s, kind)),
-        Rule::Ends(t) => state::gave(
+        Rule::Starts => ticks::gave(Event::TickStart(tick), at, ticks::started(s, kind)),
+        Rule::Ends(t) => ticks::gave(
             Event::TickEnd(tick),
             at,
-            state::ended(s, t, Cid::NoCid, kind),
+            ticks::ended(s, t, Cid::NoCid, kind),
         ),
-        Rule::EndsHere => state::gave(
+        Rule::EndsHere => ticks::gave(
             Event::TickEnd(tick),
             at,
-            state::ended(s, tick, remembered, kind),
+            ticks::ended(s, tick, remembered, kind),
         ),
-        Rule::Over => state::refuse(s, Refusal::TickOverflow),
+        Rule::Over => ticks::refuse(s, Refusal::TickOverflow),
     }
 }
 
@@ -102,7 +102,7 @@ pub fn open_call(
     let read = next_kind(version, pending, w);
     match read {
         KindRead::Got { kind, next } => {
-            let rule = state::tick_rule(s, kind);
+            let rule = ticks::tick_rule(s, kind);
             with_rule(
                 s,
                 marks,
@@ -119,8 +119,8 @@ pub fn open_call(
                 former,
             )
         }
-        KindRead::RunsOut => state::run_out(s, last),
-        KindRead::Refused(r) => state::refuse(s, r),
+        KindRead::RunsOut => ticks::run_out(s, last),
+        KindRead::Refused(r) => ticks::refuse(s, r),
     }
 }
 

@@ -85,7 +85,7 @@ fn undone(board: Board, read: ReadAnswer) -> SteppedBack {
             board,
         };
     };
-    back::step_back(board, event, input, former)
+    stepping::step_back(board, event, input, former)
 }
 
 // The board that a step back gave, which is to be that of a reader.

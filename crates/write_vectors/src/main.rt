@@ -12,7 +12,7 @@ use item::Record;
 use kinds::Version;
 use libc::STDOUT_FILENO;
 use packer::Part;
-use records::CallAnswer;
+use record_call::CallAnswer;
 use varint::Wrote;
 
 fn say(text: &[u8]) {
@@ -266,7 +266,7 @@ fn by_hand(s: &[u8]) {
 // ---- a record that bytes give
 
 fn by_bytes(version: Version, w: &[u8]) {
-    let call = records::record_call(version, w, true);
+    let call = record_call::record_call(version, w, true);
     let answer = call.answer;
     let value = call.value;
     if let CallAnswer::Got(_) = answer {

@@ -21,13 +21,13 @@ use Rattle.item.specs.Records.{Content}
 use Rattle.item.specs.Contents.{beside}
 use Rattle.written.specs.Written.{tagCount, tagBytes}
 use Rattle.written.specs.Form.{tagWritable}
-use Rattle.outlines.specs.steps.Pieces.{noFields, planOf, piecesOk, piecesBytes, piecesOf}
-use Rattle.outlines.specs.declared.Piece.{Piece}
-use Rattle.outlines.specs.declared.Piece.the-variants.{Empty, Never, Int}
-use Rattle.outlines.specs.declared.Tail.{Tail}
-use Rattle.outlines.specs.declared.Tail.the-variants.{Nothing, Numbers, Arguments}
-use Rattle.outlines.specs.declared.Plan.{Plan}
-use Rattle.outlines.specs.declared.Outline.{Outline}
+use Rattle.pieces.specs.steps.Pieces.{noFields, planOf, piecesOk, piecesBytes, piecesOf}
+use Rattle.pieces.specs.declared.Piece.{Piece}
+use Rattle.pieces.specs.declared.Piece.the-variants.{Empty, Never, Int}
+use Rattle.pieces.specs.declared.Tail.{Tail}
+use Rattle.pieces.specs.declared.Tail.the-variants.{Nothing, Numbers, Arguments}
+use Rattle.pieces.specs.declared.Plan.{Plan}
+use Rattle.pieces.specs.declared.Outline.{Outline}
 use Rattle.outlines.specs.declared.Form.{Form}
 
 -- ---- the pieces of a record

@@ -4,9 +4,9 @@ use mathlib.Core.Path.{_≡_, refl, sym, _∙_, ap}
 use native.Mathlib.Omega.{arith}
 use borrow.Author.Needs.{needs}
 use lib.ListN.{length, drop, length-map, drop-of-length-le}
-use Rattle.outlines.specs.steps.Pieces.{piecesOf, piecesOk, piecesBytes}
+use Rattle.pieces.specs.steps.Pieces.{piecesOf, piecesOk, piecesBytes}
 use Rattle.record_writer.specs.steps.Room.{leftAfter}
-use Rattle.outlines.proofs.Pieces.{pieces-end}
+use Rattle.pieces.proofs.Pieces.{pieces-end}
 use Rattle.record_writer.proofs.Leaves.{left-none, left-next}
 use Rattle.record_writer.proofs.measure.Statement.{statement}
 use Rattle.record_writer.proofs.measure.Tie as tie

@@ -7,10 +7,10 @@ use mathlib.Core.List.{List, _++_}
 use native.Mathlib.Omega.{arith}
 use borrow.Author.Needs.{needs}
 use lib.ListN.{length, getD, drop, length-map, drop-of-length-le}
-use Rattle.outlines.specs.steps.Pieces.{pieceOk, pieceBytes, piecesOf, piecesOk, piecesBytes}
-use Rattle.outlines.specs.declared.Piece.{Piece}
-use Rattle.outlines.specs.declared.Piece.the-variants.{Empty}
-use Rattle.outlines.proofs.Pieces.{bytes-next, ok-next, pieces-end}
+use Rattle.pieces.specs.steps.Pieces.{pieceOk, pieceBytes, piecesOf, piecesOk, piecesBytes}
+use Rattle.pieces.specs.declared.Piece.{Piece}
+use Rattle.pieces.specs.declared.Piece.the-variants.{Empty}
+use Rattle.pieces.proofs.Pieces.{bytes-next, ok-next, pieces-end}
 use Rattle.record_writer.proofs.Puts.{Rest, put-past, rest-done, rest-room, rest-step}
 use Rattle.record_writer.proofs.put_pieces.Statement.{statement}
 use Rattle.record_writer.proofs.put_pieces.Tie as tie

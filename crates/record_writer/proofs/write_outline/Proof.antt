@@ -6,7 +6,7 @@ use mathlib.Core.List.{List}
 use borrow.Author.Needs.{needs}
 use lib.ListN.{length}
 use Rattle.packer.proofs.Joined.{put-answer}
-use Rattle.outlines.specs.steps.Pieces.{piecesOf, piecesOk, piecesBytes}
+use Rattle.pieces.specs.steps.Pieces.{piecesOf, piecesOk, piecesBytes}
 use Rattle.record_writer.specs.steps.Room.{leftAfter, roomAt}
 use Rattle.record_writer.specs.steps.Puts.{Ready}
 use Rattle.record_writer.proofs.Room.{has-room, no-room, no-form}

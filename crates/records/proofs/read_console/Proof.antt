@@ -1,10 +1,8 @@
 -- `records::read_console` meets its contract. Assumes nothing.
-use mathlib.Core.Path.{_≡_, sym, _∙_}
+use mathlib.Core.Path.{_≡_, refl}
 use mir.Syntax.{w32}
 use mir.Val.{toZ, ofZ}
-use Rattle.kinds.specs.declared.Kind.the-variants.{ConsoleCommand}
 use Rattle.records.proofs.Commands.{no-head, command-rest}
-use Rattle.records.proofs.Calls.{rest-out}
 use borrow.Author.Needs.{needs}
 use Rattle.records.proofs.read_console.Statement.{statement}
 use Rattle.records.proofs.read_console.Tie as tie
@@ -14,8 +12,10 @@ returns c =
     let h = c .before .before .before in
     let a = h .before .before .args in
     rw (c .alone .ensures)
-    (rest-out ConsoleCommand (a .s .now) (a .at)
-    (no-head (a .s .now) (a .at) (h .read-head .result) (h .read-head .ensures) (c .before .enum-told .given .1)))
+    (record {
+      values = no-head (a .s .now) (a .at) (h .read-head .result) (h .read-head .ensures) (c .before .enum-told .given .1);
+      tidy = refl;
+    })
 
 returns-2 : tie.Need-returns-2
 returns-2 c =

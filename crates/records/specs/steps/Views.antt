@@ -1,10 +1,9 @@
 -- What the functions of this crate hand over, as the definitions say it.
 use Prim.Native.Nat.{ℕ}
 use mathlib.Core.Path.{_≡_}
-use mathlib.Core.Bool.{Bool, true, false, cond}
+use mathlib.Core.Bool.{Bool, true, false}
 use mathlib.Core.List.{List, [], _∷_}
 use lib.IntN.{ℤ, pos}
-use Rattle.refusal.specs.declared.Refusal.the-variants.{UnexpectedEnd}
 use Rattle.packer.specs.declared.Part.{Part}
 use Rattle.fields.specs.Fields.{Value, num, bytes, Reading, got, runsOut, refused}
 use Rattle.fields.specs.Views.{zeros}
@@ -29,8 +28,6 @@ use Rattle.records.specs.declared.HeadRead.the-variants as heads
 use Rattle.records.specs.declared.RecordAnswer.{RecordAnswer}
 use Rattle.records.specs.declared.RecordAnswer.the-variants as answers
 use Rattle.records.specs.declared.RecordRead.{RecordRead}
-use Rattle.records.specs.declared.CallAnswer.{CallAnswer}
-use Rattle.records.specs.declared.CallAnswer.the-variants as calls
 
 -- ---- a record without what stands beside it
 
@@ -116,10 +113,3 @@ pub record RestRead (kind : Kind) (s : List ℕ) (at : ℕ) (r : RecordRead) : T
 pub record RecordAt (v : Version) (s : List ℕ) (r : RecordRead) : Type 0 where
   pub values : readIs r ≡ readRecord v s 0
   pub tidy : tidyAnswer (r .answer) (r .value) ≡ r .value
-
--- ---- the record call
-
-abbrev pub saidOf : RecordAnswer → Bool → CallAnswer
-saidOf (answers.Got next) last = calls.Got next
-saidOf answers.RunsOut last = cond last (calls.Refused UnexpectedEnd) calls.More
-saidOf (answers.Refused r) last = calls.Refused r
