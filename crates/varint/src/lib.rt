@@ -4,16 +4,8 @@ ghost use Prim.Native.Nat.{_<_};
 ghost use lib.ListN.{length};
 ghost use lib.Signed.{mag};
 ghost use Rattle.varint.specs.Integers.{digits, amount, signOf, valueOf, isLast, remarkOf, readInt};
-ghost use Rattle.varint.specs.Written.{
-  signBit,
-  extend,
-  firstByte,
-  laterByte,
-  laterBytes,
-  canonical,
-  wrote,
-  written,
-};
+ghost use Rattle.varint.specs.Written.{signBit, extend, firstByte, laterByte, laterBytes, canonical, written};
+ghost use Rattle.varint.specs.steps.Writing.{wrote};
 use refusal::Refusal;
 
 // What stands out in a number's bytes. It never refuses.
