@@ -12,8 +12,9 @@ use Rattle.fields.specs.declared.Args.{Args}
 use Rattle.fields.proofs.Answers.{not-out, not-refused}
 use Rattle.item.specs.Said.{Said, gives, more, finish, refuses}
 use Rattle.item.specs.Records.{Content, content, readRest}
-use Rattle.item.specs.Contents.{itemOf, beside, withBeside, noArgs, recordOf, argsIn, tidyTag}
-use Rattle.kinds.specs.Views.{kindIs}
+use Rattle.item.specs.Contents.{itemOf, besideOf, partsOf, withBeside, noArgs, argsIn, recordOf}
+use Rattle.item.specs.steps.Beside.{beside}
+use Rattle.kinds.specs.Kinds.{Beside, nothing, ten, arguments, ofExtension, byBeside}
 use Rattle.item.specs.declared.Item.{Item}
 use Rattle.kinds.specs.declared.Kind.{Kind}
 use Rattle.kinds.specs.declared.KindRead.{KindRead}
@@ -37,13 +38,11 @@ use Rattle.state.specs.declared.Scalars.{Scalars}
 use Rattle.state.specs.declared.Event.the-variants as events
 use Rattle.state.specs.declared.Answer.{Answer}
 use Rattle.state.specs.declared.Answer.the-variants as answers
-use Rattle.state.proofs.Every.{by-cond}
 use Rattle.rests.specs.steps.Kinds.{otherSort}
 use Rattle.rests.proofs.Others.{no-other, by-other}
 use Rattle.rests.proofs.Slim.{otherEvent, otherSaid, slim-same, slim-said}
-use Rattle.kinds.specs.Kinds.{Beside, kindRow, hasArguments, isCommand}
-use Rattle.kinds.specs.Kinds as rows
-use Rattle.arguments.specs.Arguments.{kindArgs, tagArgs, answerArgs, saidWith}
+use Rattle.kinds.specs.steps.Kinds.{isCommand, kindIs}
+use Rattle.arguments.specs.Arguments.{answerArgs, saidWith}
 use Rattle.arguments.specs.steps.Inside.{isRecord, ArgsFor}
 use Rattle.arguments.proofs.Whole.{whole-got}
 use Rattle.arguments.proofs.Records.{FromRest, FromKind, call-given}
@@ -87,14 +86,15 @@ said-plain (answers.Finish used) xs h = refl
 said-plain (answers.Refused r) xs h = refl
 
 -- nothing has no arguments
-kind-none : (k : Kind) → kindArgs k noArgs ≡ noArgs
+beside-none : (b : Beside) → byBeside noArgs noArgs (argsWith (partsOf noArgs)) noArgs b ≡ noArgs
 unfolding argsWith
-kind-none k = by-cond (λ (xs : Args). xs ≡ noArgs) (isCommand k) (λ _. refl) (λ _. refl)
+beside-none nothing = refl
+beside-none ten = refl
+beside-none arguments = refl
+beside-none ofExtension = refl
 
-tag-none : (t : Tag) → tagArgs t noArgs ≡ noArgs
-tag-none (Plain k) = kind-none k
-tag-none (Named k) = refl
-tag-none Other = refl
+tag-none : (t : Tag) → argsIn t noArgs ≡ noArgs
+tag-none t = beside-none (besideOf t)
 
 no-tidy : (a : Answer) → answerArgs a noArgs ≡ noArgs
 no-tidy (answers.Event (events.TickStart t) used) = refl
@@ -146,10 +146,10 @@ module _ (xs : Args) (c : Content Part) (n : ℕ) where
       rw (p, q) (ap (λ (d : Content Part). gives (other d) n) b)
 
   item-kept : (i : Item) (used : ℕ) → saidIs (answers.Event (events.Record i) used) ≡ gives (other (ownContent c)) n
-      → tagArgs (c .tag) xs ≡ xs → answerArgs (answers.Event (events.Record i) used) xs ≡ xs
+      → argsIn (c .tag) xs ≡ xs → answerArgs (answers.Event (events.Record i) used) xs ≡ xs
   item-kept i used e b =
       let p : itemOf i ≡ ownContent c = cc in
-      subst (λ (d : Content Part). tagArgs (d .tag) xs ≡ xs) (sym p) b
+      subst (λ (d : Content Part). argsIn (d .tag) xs ≡ xs) (sym p) b
 
   said-record : (a : Answer) → Recorded a → saidIs a ≡ gives (other (ownContent c)) n → withBeside (ownContent c) [] xs ≡ c
       → saidWith a xs ≡ gives (other c) n
@@ -157,16 +157,16 @@ module _ (xs : Args) (c : Content Part) (n : ℕ) where
       subst (λ (d : Answer). saidIs d ≡ gives (other (ownContent c)) n → withBeside (ownContent c) [] xs ≡ c → saidWith d xs ≡ gives (other c) n)
       (r .is) (item-whole (r .item) (r .used))
 
-  said-kept : (a : Answer) → Recorded a → saidIs a ≡ gives (other (ownContent c)) n → tagArgs (c .tag) xs ≡ xs → answerArgs a xs ≡ xs
+  said-kept : (a : Answer) → Recorded a → saidIs a ≡ gives (other (ownContent c)) n → argsIn (c .tag) xs ≡ xs → answerArgs a xs ≡ xs
   said-kept a r =
-      subst (λ (d : Answer). saidIs d ≡ gives (other (ownContent c)) n → tagArgs (c .tag) xs ≡ xs → answerArgs d xs ≡ xs)
+      subst (λ (d : Answer). saidIs d ≡ gives (other (ownContent c)) n → argsIn (c .tag) xs ≡ xs → answerArgs d xs ≡ xs)
       (r .is) (item-kept (r .item) (r .used))
 
 -- the ten numbers don't stand beside a record that changes no entry
-beside-other : (t : Tag) (ten : List ℤ) (xs : Args) → otherSort (tagSort t) ≡ true → beside t [] xs ≡ beside t ten xs
-beside-other (Plain k) ten xs o = by-other (λ k. beside (Plain k) [] xs ≡ beside (Plain k) ten xs) refl refl refl refl refl k o
-beside-other (Named k) ten xs o = refl
-beside-other Other ten xs o = refl
+beside-other : (t : Tag) (zs : List ℤ) (xs : Args) → otherSort (tagSort t) ≡ true → beside t [] xs ≡ beside t zs xs
+beside-other (Plain k) zs xs o = by-other (λ k. beside (Plain k) [] xs ≡ beside (Plain k) zs xs) refl refl refl refl refl k o
+beside-other (Named k) zs xs o = refl
+beside-other Other zs xs o = refl
 
 record-beside : (r : Record) → otherSort (tagSort (itemOf (r .item) .tag)) ≡ true → withBeside (ownContent (recordOf r)) [] (r .args) ≡ recordOf r
 record-beside r o =
@@ -184,23 +184,11 @@ answer-beside (rests.Refused q) r c n e o = not-refused e
 
 -- ---- the arguments that stand beside a record are its own
 
-beside-kept : (b : Beside) (xs : Args) → argsIn b xs ≡ cond (hasArguments b) (argsWith (take (xs .count) (xs .parts))) noArgs
-beside-kept rows.nothing xs = refl
-beside-kept rows.ten xs = refl
-beside-kept rows.arguments xs = refl
-beside-kept rows.ofExtension xs = refl
-
-tag-kept : (t : Tag) (r : Record) → tidyTag t r .args ≡ tagArgs t (r .args)
-tag-kept (Plain k) r = beside-kept (kindRow k .beside) (r .args)
-tag-kept (Named k) r = refl
-tag-kept Other r = refl
-
 answer-kept : (a : RecordAnswer) (r : Record) (c : Content Part) (n : ℕ) → answerIs a r ≡ got c n → tidyAnswer a r .args ≡ r .args
-    → tagArgs (c .tag) (r .args) ≡ r .args
+    → argsIn (c .tag) (r .args) ≡ r .args
 answer-kept (rests.Got next) r c n e t =
     let p : recordOf r ≡ c = cc in
-    let q : tagArgs (itemOf (r .item) .tag) (r .args) ≡ r .args = sym (tag-kept (itemOf (r .item) .tag) r) ∙ t in
-    subst (λ (d : Content Part). tagArgs (d .tag) (r .args) ≡ r .args) p q
+    subst (λ (d : Content Part). argsIn (d .tag) (r .args) ≡ r .args) p t
 answer-kept rests.RunsOut r c n e t = not-out e
 answer-kept (rests.Refused q) r c n e t = not-refused e
 

@@ -10,13 +10,16 @@ use Rattle.packer.specs.Parts.{shown, readRaw, readData}
 use Rattle.packer.specs.declared.Part.{Part}
 use Rattle.packer.specs.declared.PartRead.{PartRead}
 use Rattle.packer.specs.declared.PartRead.the-variants as parts
-use Rattle.fields.specs.Fields.{Field, int, str, blob, Value, bytes, Reading, got, runsOut, refused, push, andThen, readField, readFields}
+use Rattle.fields.specs.Fields.{Field, int, str, blob, Value, bytes, Reading, got, runsOut, refused, readField, readFields}
+use Rattle.fields.specs.steps.Sorts.{push, andThen}
 use Rattle.extensions.specs.Extensions.{Payload, shaped, allData, payloadAt, find}
 use Rattle.extensions.specs.declared.Extension.{Extension}
 use Rattle.extensions.specs.declared.Found.{Found}
 use Rattle.extensions.specs.declared.Found.the-variants.{Known, Unknown}
-use Rattle.item.specs.Records.{Content, content, asContent, upTo, ofPayload, ofFound, afterData, afterId, readEx, readRest}
-use Rattle.item.specs.Contents.{ownPayload, ownFields, beside, withBeside, noArgs}
+use Rattle.item.specs.Records.{Content, content, asContent, ofPayload, ofFound, readEx, readRest}
+use Rattle.item.specs.steps.Reading.{upTo, afterData, afterId}
+use Rattle.item.specs.Contents.{ownPayload, ownFields, withBeside, noArgs}
+use Rattle.item.specs.steps.Beside.{beside}
 use Rattle.kinds.specs.declared.Kind.{Kind}
 use Rattle.kinds.specs.declared.Kind.the-variants as kinds
 use Rattle.item.specs.declared.Tag.{Tag}
@@ -24,7 +27,7 @@ use Rattle.item.specs.declared.Tag.the-variants.{Plain, Named, Other}
 use Rattle.item.specs.Contents.{ownContent}
 use Rattle.rests.specs.steps.Kinds.{isOther}
 use Rattle.rests.proofs.Others.{no-other, by-other}
-use Rattle.kinds.specs.Kinds.{isCommand}
+use Rattle.kinds.specs.steps.Kinds.{isCommand}
 
 -- ---- as many values as fields
 

@@ -1,16 +1,9 @@
 -- What a reading call says, with the arguments that stand beside a command.
-use mathlib.Core.Bool.{cond}
-use mathlib.Core.List.{List, []}
-use lib.ListN.{take}
-use Rattle.fields.specs.Views.{argsWith}
+use mathlib.Core.List.{[]}
 use Rattle.fields.specs.declared.Args.{Args}
 use Rattle.item.specs.Said.{Said, gives, more, finish, refusing}
-use Rattle.item.specs.Contents.{itemOf, withBeside, noArgs}
+use Rattle.item.specs.Contents.{itemOf, withBeside, noArgs, argsIn}
 use Rattle.item.specs.declared.Item.{Item}
-use Rattle.kinds.specs.Kinds.{isCommand}
-use Rattle.kinds.specs.declared.Kind.{Kind}
-use Rattle.item.specs.declared.Tag.{Tag}
-use Rattle.item.specs.declared.Tag.the-variants.{Plain, Named, Other}
 use Rattle.state.specs.Reading.{Event, other}
 use Rattle.state.specs.Views.{eventIs}
 use Rattle.state.specs.declared.Event as code
@@ -38,16 +31,8 @@ saidWith (answers.Finish used) xs = finish used
 saidWith (answers.Refused r) xs = refusing r
 
 -- arguments stand beside a command alone, as many parts as the count says, the others empty; elsewhere there are none
-abbrev pub kindArgs : Kind → Args → Args
-kindArgs k xs = cond (isCommand k) (argsWith (take (xs .count) (xs .parts))) noArgs
-
-abbrev pub tagArgs : Tag → Args → Args
-tagArgs (Plain k) xs = kindArgs k xs
-tagArgs (Named k) xs = noArgs
-tagArgs Other xs = noArgs
-
 abbrev pub eventArgs : code.Event → Args → Args
-eventArgs e xs = onRecord e noArgs (λ i. tagArgs (itemOf i .tag) xs)
+eventArgs e xs = onRecord e noArgs (λ i. argsIn (itemOf i .tag) xs)
 
 abbrev pub answerArgs : Answer → Args → Args
 answerArgs (answers.Event e used) xs = eventArgs e xs

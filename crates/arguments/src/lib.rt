@@ -1,7 +1,7 @@
 // The arguments that stand beside a command that a reading call gave: the call leaves them out, and they are read again here.
 ghost use mathlib.Core.Path.{_≡_};
 ghost use Rattle.item.specs.Contents.{noArgs};
-ghost use Rattle.kinds.specs.Kinds.{isCommand};
+ghost use Rattle.kinds.specs.steps.Kinds.{isCommand};
 ghost use Rattle.arguments.specs.steps.Inside.{recordEvent, isRecord, ArgsFor};
 use fields::Args;
 use kinds::Kind;

@@ -13,35 +13,16 @@ use Rattle.packer.specs.Parts.{shown, readString, readRaw, readData}
 use Rattle.packer.specs.declared.Part.{Part}
 use Rattle.packer.specs.declared.PartRead.{PartRead}
 use Rattle.packer.specs.declared.PartRead.the-variants as parts
-use Rattle.fields.specs.Fields.{
-  Field,
-  int,
-  dt,
-  mask,
-  str,
-  uuid,
-  blob,
-  args,
-  Value,
-  Reading,
-  got,
-  runsOut,
-  refused,
-  intField,
-  maskField,
-  partField,
-  readField,
-  push,
-  andThen,
-  readFields,
-}
+use Rattle.fields.specs.Fields.{Field, int, dt, mask, str, uuid, blob, args, Value, Reading, got, runsOut, refused, readField, readFields}
+use Rattle.fields.specs.steps.Sorts.{intField, maskField, partField, push, andThen}
 use Rattle.fields.proofs.Answers.{and-split}
 use Rattle.extensions.specs.Extensions.{Payload, shaped, allData, extensionRow, payloadAt, all, find}
 use Rattle.extensions.specs.declared.Extension.{Extension}
 use Rattle.extensions.specs.declared.Found.{Found}
 use Rattle.extensions.specs.declared.Found.the-variants.{Known, Unknown}
 use Rattle.extensions.proofs.Each.{tested}
-use Rattle.item.specs.Records.{Content, asContent, upTo, ofPayload, ofFound, afterData, afterId, readEx}
+use Rattle.item.specs.Records.{Content, asContent, ofPayload, ofFound, readEx}
+use Rattle.item.specs.steps.Reading.{upTo, afterData, afterId}
 use Rattle.item.specs.declared.Tag.{Tag}
 use Rattle.item.specs.declared.Tag.the-variants.{Named}
 

@@ -19,27 +19,8 @@ use Rattle.packer.specs.Parts.{readString}
 use Rattle.packer.specs.declared.Part.{Part}
 use Rattle.packer.specs.declared.PartRead.{PartRead}
 use Rattle.packer.specs.declared.PartRead.the-variants as parts
-use Rattle.fields.specs.Fields.{
-  Field,
-  int,
-  dt,
-  mask,
-  str,
-  blob,
-  args,
-  Value,
-  Reading,
-  got,
-  runsOut,
-  refused,
-  dtField,
-  oneArg,
-  argsFrom,
-  asStrings,
-  argsField,
-  andThen,
-  readFields,
-}
+use Rattle.fields.specs.Fields.{Field, int, dt, mask, str, blob, args, Value, Reading, got, runsOut, refused, argsFrom, readFields}
+use Rattle.fields.specs.steps.Sorts.{dtField, oneArg, asStrings, argsField, andThen}
 use Rattle.fields.specs.Views.{tenFields}
 use Rattle.fields.proofs.Appended.{prepend, joined, fields-joined}
 use Rattle.item.specs.Records.{asContent, readRest}

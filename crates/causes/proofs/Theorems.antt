@@ -5,7 +5,8 @@ use mathlib.Core.List.{List}
 use Rattle.refusal.specs.declared.Refusal.{Refusal}
 use Rattle.fields.specs.Fields.{Reading, got, runsOut, refused}
 use Rattle.kinds.specs.Kinds.{readKind}
-use Rattle.item.specs.Records.{afterKind, readRecord}
+use Rattle.item.specs.Records.{readRecord}
+use Rattle.item.specs.steps.Reading.{afterKind}
 use Rattle.kinds.specs.declared.Version.{Version}
 use Rattle.kinds.specs.declared.Kind.{Kind}
 use Rattle.causes.specs.Causes.{RecordRefused, inKind, inRest}

@@ -11,7 +11,8 @@ use Rattle.varint.specs.Integers.{readInt}
 use Rattle.varint.specs.declared.IntRead.{IntRead}
 use Rattle.varint.specs.declared.IntRead.the-variants as ints
 use Rattle.fields.specs.Fields.{refused}
-use Rattle.kinds.specs.Kinds.{withClient, extensionKind, kindOf, afterNumber, readKind}
+use Rattle.kinds.specs.Kinds.{kindOf, readKind}
+use Rattle.kinds.specs.steps.Kinds.{withClient, extensionKind, afterNumber}
 use Rattle.kinds.specs.declared.Version.{Version}
 use Rattle.kinds.specs.declared.Version.the-variants.{V1, V2}
 use Rattle.kinds.specs.declared.Kind.{Kind}

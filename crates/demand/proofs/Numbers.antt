@@ -13,9 +13,11 @@ use Rattle.varint.specs.declared.IntRead.{IntRead}
 use Rattle.varint.specs.declared.IntRead.the-variants as ints
 use Rattle.varint.proofs.Prefix.{int-fits}
 use Rattle.packer.specs.declared.Part.{Part}
-use Rattle.fields.specs.Fields.{int, Value, num, Reading, got, runsOut, refused, intField, push, andThen, readFields}
+use Rattle.fields.specs.Fields.{int, Value, num, Reading, got, runsOut, refused, readFields}
+use Rattle.fields.specs.steps.Sorts.{intField, push, andThen}
 use Rattle.fields.specs.Views.{numbers}
-use Rattle.kinds.specs.Kinds.{withClient, extensionKind, kindOf, afterNumber, readKind}
+use Rattle.kinds.specs.Kinds.{kindOf, readKind}
+use Rattle.kinds.specs.steps.Kinds.{withClient, extensionKind, afterNumber}
 use Rattle.kinds.specs.declared.Version.{Version}
 use Rattle.kinds.specs.declared.Version.the-variants.{V1, V2}
 use Rattle.kinds.specs.declared.Kind.{Kind}

@@ -11,7 +11,8 @@ use Rattle.shapes.specs.declared.FieldsRead.{FieldsRead}
 use Rattle.shapes.specs.declared.FieldsRead.the-variants as read
 use Rattle.extensions.specs.Extensions.{Payload, shaped}
 use Rattle.extensions.specs.declared.Extension.{Extension}
-use Rattle.item.specs.Records.{Content, asContent, upTo, ofPayload}
+use Rattle.item.specs.Records.{Content, asContent, ofPayload}
+use Rattle.item.specs.steps.Reading.{upTo}
 use Rattle.item.specs.declared.Tag.the-variants.{Named}
 use Rattle.extension_records.specs.steps.Views.{exContent}
 

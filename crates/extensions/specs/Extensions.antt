@@ -1,7 +1,7 @@
 -- Extensions: the 20 identifiers, the constants of item.rs, and what stands in the data of each. docs/FORMAT.md, "Records".
 use Prim.Native.Nat.{ℕ}
 use mathlib.Core.Bool.{Bool, true, false, cond}
-use mathlib.Core.List.{List, [], _∷_}
+use mathlib.Core.List.{List, [], _∷_, _++_}
 use Rattle.fields.specs.Fields.{Field, int, str, uuid}
 use Rattle.kinds.specs.Magic.{sameBytes}
 use Rattle.extensions.specs.declared.Extension.{Extension}
@@ -75,30 +75,18 @@ payloadAt e = extensionRow e .payload
 unfoldable pub hasClient : Extension → Bool
 hasClient e = extensionRow e .client
 
--- the 20, in their order
+-- the 20, in their order: of connections, of players, of teams
+abbrev connections : List Extension
+connections = Antibot ∷ AuthInit ∷ AuthLogin ∷ AuthLogout ∷ Ddnetver ∷ DdnetverOld ∷ Joinver6 ∷ Joinver7 ∷ []
+
+abbrev players : List Extension
+players = PlayerFinish ∷ PlayerName ∷ PlayerReady ∷ PlayerRejoin ∷ PlayerSwap ∷ PlayerTeam ∷ []
+
+abbrev teams : List Extension
+teams = TeamFinish ∷ TeamLoadFailure ∷ TeamLoadSuccess ∷ TeamPractice ∷ TeamSaveFailure ∷ TeamSaveSuccess ∷ []
+
 unfoldable pub all : List Extension
-all =
-    Antibot
-    ∷ AuthInit
-    ∷ AuthLogin
-    ∷ AuthLogout
-    ∷ Ddnetver
-    ∷ DdnetverOld
-    ∷ Joinver6
-    ∷ Joinver7
-    ∷ PlayerFinish
-    ∷ PlayerName
-    ∷ PlayerReady
-    ∷ PlayerRejoin
-    ∷ PlayerSwap
-    ∷ PlayerTeam
-    ∷ TeamFinish
-    ∷ TeamLoadFailure
-    ∷ TeamLoadSuccess
-    ∷ TeamPractice
-    ∷ TeamSaveFailure
-    ∷ TeamSaveSuccess
-    ∷ []
+all = connections ++ players ++ teams
 
 -- the extension among some that an identifier names
 unfoldable pub findIn : List Extension → List ℕ → Found

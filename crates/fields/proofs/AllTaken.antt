@@ -7,7 +7,8 @@ use native.Mathlib.Omega.{arith}
 use lib.ListN.{length, drop}
 use Rattle.varint.specs.Laws.{Bytes}
 use Rattle.packer.specs.declared.Part.{Part}
-use Rattle.fields.specs.Fields.{Field, Value, Reading, got, runsOut, refused, readField, push, andThen, readFields, mean}
+use Rattle.fields.specs.Fields.{Field, Value, Reading, got, runsOut, refused, readField, readFields, mean}
+use Rattle.fields.specs.steps.Sorts.{push, andThen}
 use Rattle.fields.specs.Remarks.{fieldRemark, remarks}
 use Rattle.fields.specs.Writing.{writeField, writeFields, valueInside, partsInside}
 use Rattle.fields.specs.Forms.{AllSorted, writable, allWritable}

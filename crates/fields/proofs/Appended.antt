@@ -3,7 +3,8 @@ use Prim.Native.Nat.{ℕ}
 use mathlib.Core.Path.{_≡_, refl, sym, _∙_, ap}
 use mathlib.Core.List.{List, [], _∷_, _++_}
 use Rattle.packer.specs.declared.Part.{Part}
-use Rattle.fields.specs.Fields.{Field, Value, Reading, got, runsOut, refused, readField, push, andThen, readFields}
+use Rattle.fields.specs.Fields.{Field, Value, Reading, got, runsOut, refused, readField, readFields}
+use Rattle.fields.specs.steps.Sorts.{push, andThen}
 
 -- values before those that are read after them
 abbrev pub prepend : {A : Type 0} → List A → Reading (List A) → Reading (List A)

@@ -15,8 +15,9 @@ use Rattle.varint.specs.declared.IntRead.the-variants as ints
 use Rattle.packer.specs.Parts.{readString}
 use Rattle.packer.specs.declared.Part.{Part}
 use Rattle.packer.specs.declared.PartRead.the-variants as parts
-use Rattle.fields.specs.Fields.{args, Reading, got, runsOut, refused, oneArg, argsFrom, asStrings, readField}
-use Rattle.fields.specs.Views.{noPart, argsWith}
+use Rattle.fields.specs.Fields.{args, Reading, got, runsOut, refused, argsFrom, readField}
+use Rattle.fields.specs.steps.Sorts.{oneArg, asStrings, noPart}
+use Rattle.fields.specs.Views.{argsWith}
 use Rattle.fields.specs.steps.Reads.{readArgs, argsRead, fieldParts}
 use Rattle.fields.specs.declared.Args.{Args}
 use Rattle.fields.specs.declared.ArgsAnswer.{ArgsAnswer}

@@ -21,7 +21,8 @@ use Rattle.packer.specs.declared.Part.{Part}
 use Rattle.packer.proofs.Places.{past, past-within, shown-at, raw-at, string-at, string-shown, length-at, data-at, data-shown}
 use Rattle.fields.specs.Fields.{Field, int, dt, mask, str, uuid, blob, args, Value, num, bytes, strings, got, readField, readFields, mean}
 use Rattle.fields.specs.Remarks.{fieldRemark, remarks}
-use Rattle.fields.specs.Writing.{allNoZero, stringsBytes, writeField, writeFields}
+use Rattle.fields.specs.Writing.{stringsBytes, writeField, writeFields}
+use Rattle.fields.specs.steps.Sorts.{allNoZero}
 use Rattle.fields.specs.Forms.{Sorted, AllSorted, writable, allWritable}
 use Rattle.fields.proofs.Answers.{and-split}
 use Rattle.fields.proofs.Strings.{args-stood}

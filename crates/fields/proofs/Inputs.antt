@@ -11,8 +11,9 @@ use Rattle.varint.specs.Integers.{readInt}
 use Rattle.varint.specs.declared.Remark.{Remark}
 use Rattle.varint.specs.declared.IntRead.the-variants as ints
 use Rattle.packer.specs.declared.Part.{Part}
-use Rattle.fields.specs.Fields.{Field, int, Value, num, Reading, got, runsOut, refused, push, readFields}
-use Rattle.fields.specs.Views.{tenFields, inputFields, zeros, numbers}
+use Rattle.fields.specs.Fields.{Field, int, Value, num, Reading, got, runsOut, refused, readFields}
+use Rattle.fields.specs.steps.Sorts.{push, inputFields}
+use Rattle.fields.specs.Views.{tenFields, zeros, numbers}
 use Rattle.fields.specs.steps.Reads.{inputWith, tenRead, inputRead}
 use Rattle.fields.specs.declared.InputAnswer.the-variants as code
 use Rattle.fields.specs.declared.InputRead.{InputRead}

@@ -14,7 +14,8 @@ use Rattle.refusal.specs.declared.Refusal.the-variants.{NumArgsTooLarge}
 use Rattle.packer.specs.Parts.{part, readString, stringFrom}
 use Rattle.packer.specs.declared.Part.{Part}
 use Rattle.packer.specs.declared.PartRead.the-variants as parts
-use Rattle.fields.specs.Fields.{Reading, oneArg, argsFrom}
+use Rattle.fields.specs.Fields.{Reading, argsFrom}
+use Rattle.fields.specs.steps.Sorts.{oneArg}
 use Rattle.fields.specs.steps.Reads.{argsRead}
 use Rattle.fields.specs.declared.ArgsAnswer.{ArgsAnswer}
 use Rattle.fields.specs.declared.ArgsAnswer.the-variants.{Got, RunsOut, Refused}

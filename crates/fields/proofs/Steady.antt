@@ -32,19 +32,11 @@ use Rattle.fields.specs.Fields.{
   got,
   runsOut,
   refused,
-  intField,
-  dtField,
-  maskField,
-  partField,
-  oneArg,
   argsFrom,
-  asStrings,
-  argsField,
   readField,
-  push,
-  andThen,
   readFields,
 }
+use Rattle.fields.specs.steps.Sorts.{intField, dtField, maskField, partField, oneArg, asStrings, argsField, push, andThen}
 use Rattle.fields.specs.Laws.{isOut}
 
 -- ---- what an answer tells of the reading that it goes on from

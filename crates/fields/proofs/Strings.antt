@@ -16,8 +16,9 @@ use Rattle.packer.specs.declared.PartRead.{PartRead}
 use Rattle.packer.specs.declared.PartRead.the-variants as parts
 use Rattle.packer.proofs.Places.{past, past-within, string-at, string-shown}
 use Rattle.packer.proofs.Parts.{string-got, string-taken, string-whole}
-use Rattle.fields.specs.Fields.{got, oneArg, argsFrom}
-use Rattle.fields.specs.Writing.{allNoZero, stringsBytes, inside, allInside}
+use Rattle.fields.specs.Fields.{got, argsFrom}
+use Rattle.fields.specs.steps.Sorts.{oneArg, allNoZero, allInside}
+use Rattle.fields.specs.Writing.{stringsBytes, inside}
 use Rattle.fields.proofs.Answers.{not-out, not-refused, same-got, and-both, and-split}
 
 -- ---- read
@@ -43,7 +44,7 @@ pub record Had (n : ℕ) (s : List ℕ) (had : List Part) (at : ℕ) (ps : List 
 
 module _ (n : ℕ) (s : List ℕ) (had : List Part) (at m : ℕ) (p : Part) (e : readString s at ≡ parts.Got p m) where
   one-more : (ps : List Part) (next : ℕ) → Had n s (had ++ p ∷ []) m ps next → Had (suc n) s had at ps next
-  unfolding allNoZero allInside stringsBytes
+  unfolding stringsBytes
   one-more ps next h =
       let t = string-taken s at m p e in
       let w = string-whole s at m p e in
@@ -73,7 +74,7 @@ one-had n s had at (parts.Got p m) x g ps next e =
 one-had n s had at parts.RunsOut x g ps next e = not-out e
 
 pub args-had : (n : ℕ) (s : List ℕ) (at : ℕ) (had : List Part) → at ≤ length s → length had ≤ 16 → (ps : List Part) (next : ℕ) → argsFrom n s had at ≡ got ps next → Had n s had at ps next
-unfolding argsFrom allNoZero allInside stringsBytes
+unfolding argsFrom stringsBytes
 args-had zero s at had h l ps next e =
     same-got (Had zero s had at) e (record {
       more = [];
@@ -98,7 +99,7 @@ pub record Stood (bs : List (List ℕ)) (s : List ℕ) (at : ℕ) (had : List Pa
 
 pub args-stood : (bs : List (List ℕ)) (s rest : List ℕ) (at : ℕ) (had : List Part) → at ≤ length s → length had + length bs ≤ 16 → allNoZero bs ≡ true
     → drop at s ≡ stringsBytes bs ++ rest → Stood bs s at had
-unfolding argsFrom allNoZero stringsBytes
+unfolding argsFrom stringsBytes
 args-stood [] s rest at had h l z e = record { more = []; reads = rw (append-nil, add-zero); same = refl }
 args-stood (b ∷ bs) s rest at had h l z e =
     let w = stringBytes b in

@@ -42,18 +42,13 @@ use Rattle.fields.specs.Fields.{
   got,
   runsOut,
   refused,
-  intField,
-  dtField,
-  maskField,
-  partField,
   argsFrom,
-  asStrings,
-  argsField,
   readField,
   mean,
 }
-use Rattle.fields.specs.Remarks.{remarkCount, fieldRemark}
-use Rattle.fields.specs.Writing.{writeField, allNoZero, stringsBytes, valueInside}
+use Rattle.fields.specs.steps.Sorts.{intField, dtField, maskField, partField, asStrings, argsField, allNoZero}
+use Rattle.fields.specs.Remarks.{remarkIn, fieldRemark}
+use Rattle.fields.specs.Writing.{writeField, stringsBytes, valueInside}
 use Rattle.fields.specs.Forms.{Sorted, writable}
 use Rattle.fields.proofs.Answers.{not-out, not-refused, same-got, and-both}
 use Rattle.fields.proofs.Strings.{args-had, string-inside}
@@ -67,10 +62,10 @@ pub record Taken (f : Field) (s : List ℕ) (at : ℕ) (v : Value Part) (next : 
   pub whole : Bytes s → fieldRemark f s at ≡ 0 → drop at s ≡ writeField f (mean s v) ++ drop next s
 
 -- no remark counted is no remark
-none : (k : Remark) → remarkCount k ≡ 0 → k ≡ None
-none None e = refl
-none Overlong e = absurd (omega arith)
-none Padding e = absurd (omega arith)
+none : (z : ℤ) (m : ℕ) (k : Remark) → remarkIn (ints.Got z m k) ≡ 0 → k ≡ None
+none z m None e = refl
+none z m Overlong e = absurd (omega arith)
+none z m Padding e = absurd (omega arith)
 
 module _ (s : List ℕ) (at : ℕ) (h : at ≤ length s) where
   -- ---- numbers
@@ -83,7 +78,7 @@ module _ (s : List ℕ) (at : ℕ) (h : at ≤ length s) where
         inner = refl;
         sorted = int-fits s at z m k e;
         written = refl;
-        whole = λ b r. int-whole s at m z b (e ∙ ap (ints.Got z m) (none k (rw e at r))) .0;
+        whole = λ b r. int-whole s at m z b (e ∙ ap (ints.Got z m) (none z m k (rw e at r))) .0;
       }
 
   dt-taken : (n m : ℕ) (k : Remark) → readInt s at ≡ ints.Got (pos n) m k → Taken dt s at (num (pos n)) m
@@ -154,7 +149,7 @@ module _ (s : List ℕ) (at : ℕ) (h : at ≤ length s) where
         whole =
             λ b r.
             part-laws.data-whole s at m p e (pos (p .len)) (p .at) b
-            (q .reads ∙ ap (ints.Got (pos (p .len)) (p .at)) (none (q .remark) (rw (q .reads) at r))) .0 .0;
+            (q .reads ∙ ap (ints.Got (pos (p .len)) (p .at)) (none (pos (p .len)) (p .at) (q .remark) (rw (q .reads) at r))) .0 .0;
       }
 
   -- ---- arguments

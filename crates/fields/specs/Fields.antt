@@ -34,21 +34,21 @@ pub data Value (A : Type 0) : Type 0 where
   bytes : A → Value A
   strings : List A → Value A
 
+-- an answer for each sort of value, in this order
+abbrev pub onValue {ℓ} : {A : Type 0} {B : Type ℓ} → (ℤ → B) → (A → B) → (List A → B) → Value A → B
+onValue f g h (num z) = f z
+onValue f g h (bytes b) = g b
+onValue f g h (strings bs) = h bs
+
 -- what a number gives, or bytes, or strings; x for a value of another sort
 abbrev pub onNum {ℓ} : {A : Type 0} {B : Type ℓ} → B → (ℤ → B) → Value A → B
-onNum x f (num z) = f z
-onNum x f (bytes b) = x
-onNum x f (strings bs) = x
+onNum x f v = onValue f (λ b. x) (λ bs. x) v
 
 abbrev pub onBytes {ℓ} : {A : Type 0} {B : Type ℓ} → B → (A → B) → Value A → B
-onBytes x f (num z) = x
-onBytes x f (bytes b) = f b
-onBytes x f (strings bs) = x
+onBytes x f v = onValue (λ z. x) f (λ bs. x) v
 
 abbrev pub onStrings {ℓ} : {A : Type 0} {B : Type ℓ} → B → (List A → B) → Value A → B
-onStrings x f (num z) = x
-onStrings x f (bytes b) = x
-onStrings x f (strings bs) = f bs
+onStrings x f v = onValue (λ z. x) (λ b. x) f v
 
 -- what reading says: what was got and the place past it; that the bytes run out; a refusal
 pub data Reading (A : Type 0) : Type 0 where
@@ -56,85 +56,50 @@ pub data Reading (A : Type 0) : Type 0 where
   runsOut : Reading A
   refused : Refusal → Reading A
 
+-- reading goes on, from the place past what was got, by what it is
+abbrev pub withGot : {A : Type 0} {B : Type 0} → Reading A → (A → ℕ → Reading B) → Reading B
+withGot (got a next) k = k a next
+withGot runsOut k = runsOut
+withGot (refused r) k = refused r
+
+abbrev pub withInt : {B : Type 0} → IntRead → (ℤ → ℕ → Reading B) → Reading B
+withInt (ints.Got z next remark) k = k z next
+withInt ints.RunsOut k = runsOut
+
+abbrev pub withPart : {B : Type 0} → PartRead → (Part → ℕ → Reading B) → Reading B
+withPart (parts.Got p next) k = k p next
+withPart parts.RunsOut k = runsOut
+
+-- a number that isn't negative, or else a refusal
+abbrev pub withNatural : {B : Type 0} → Refusal → ℤ → (ℕ → Reading B) → Reading B
+withNatural r (pos n) k = k n
+withNatural r (negsuc n) k = refused r
+
 -- ---- a field
 
-abbrev pub intField : IntRead → Reading (Value Part)
-intField (ints.Got z next remark) = got (num z) next
-intField ints.RunsOut = runsOut
-
-abbrev pub dtFrom : ℤ → ℕ → Reading (Value Part)
-dtFrom (pos n) next = got (num (pos n)) next
-dtFrom (negsuc n) next = refused NegativeDt
-
-abbrev pub dtField : IntRead → Reading (Value Part)
-dtField (ints.Got z next remark) = dtFrom z next
-dtField ints.RunsOut = runsOut
-
-abbrev pub maskField : IntRead → Reading (Value Part)
-maskField (ints.Got z next remark) = got (num (pos (ofZ w32 z))) next
-maskField ints.RunsOut = runsOut
-
-abbrev pub partField : PartRead → Reading (Value Part)
-partField (parts.Got p next) = got (bytes p) next
-partField parts.RunsOut = runsOut
-
--- one more string after those that were had; a 17th is refused once it has been read
-abbrev pub oneArg : PartRead → List Part → (List Part → ℕ → Reading (List Part)) → Reading (List Part)
-oneArg (parts.Got p next) had k = cond (ltb (length had) 16) (k (had ++ p ∷ []) next) (refused NumArgsTooLarge)
-oneArg parts.RunsOut had k = runsOut
-
--- n more strings
+-- n more strings after those that were had; a 17th is refused once it has been read
 unfoldable pub argsFrom : ℕ → List ℕ → List Part → ℕ → Reading (List Part)
 argsFrom zero s had at = got had at
-argsFrom (suc n) s had at = oneArg (readString s at) had (argsFrom n s)
-
-abbrev pub asStrings : Reading (List Part) → Reading (Value Part)
-asStrings (got ps next) = got (strings ps) next
-asStrings runsOut = runsOut
-asStrings (refused r) = refused r
-
-abbrev pub argsOf : List ℕ → ℤ → ℕ → Reading (Value Part)
-argsOf s (pos n) next = asStrings (argsFrom n s [] next)
-argsOf s (negsuc n) next = refused NegativeNumArgs
-
-abbrev pub argsField : List ℕ → IntRead → Reading (Value Part)
-argsField s (ints.Got z next remark) = argsOf s z next
-argsField s ints.RunsOut = runsOut
+argsFrom (suc n) s had at =
+    withPart (readString s at) (λ p next. cond (ltb (length had) 16) (argsFrom n s (had ++ p ∷ []) next) (refused NumArgsTooLarge))
 
 abbrev pub readField : Field → List ℕ → ℕ → Reading (Value Part)
-readField int s at = intField (readInt s at)
-readField dt s at = dtField (readInt s at)
-readField mask s at = maskField (readInt s at)
-readField str s at = partField (readString s at)
-readField uuid s at = partField (readRaw 16 s at)
-readField blob s at = partField (readData s at)
-readField args s at = argsField s (readInt s at)
+readField int s at = withInt (readInt s at) (λ z. got (num z))
+readField dt s at = withInt (readInt s at) (λ z next. withNatural NegativeDt z (λ n. got (num (pos n)) next))
+readField mask s at = withInt (readInt s at) (λ z. got (num (pos (ofZ w32 z))))
+readField str s at = withPart (readString s at) (λ p. got (bytes p))
+readField uuid s at = withPart (readRaw 16 s at) (λ p. got (bytes p))
+readField blob s at = withPart (readData s at) (λ p. got (bytes p))
+readField args s at =
+    withInt (readInt s at) (λ z next. withNatural NegativeNumArgs z (λ n. withGot (argsFrom n s [] next) (λ ps. got (strings ps))))
 
 -- ---- fields, one after the other
 
--- a value before those that are read after it
-abbrev pub push : {A : Type 0} → A → Reading (List A) → Reading (List A)
-push v (got vs next) = got (v ∷ vs) next
-push v runsOut = runsOut
-push v (refused r) = refused r
-
-abbrev pub andThen : {A : Type 0} → Reading A → (ℕ → Reading (List A)) → Reading (List A)
-andThen (got v next) k = push v (k next)
-andThen runsOut k = runsOut
-andThen (refused r) k = refused r
-
 abbrev pub readFields : List Field → List ℕ → ℕ → Reading (List (Value Part))
 readFields [] s at = got [] at
-readFields (f ∷ fs) s at = andThen (readField f s at) (readFields fs s)
+readFields (f ∷ fs) s at = withGot (readField f s at) (λ v next. withGot (readFields fs s next) (λ vs. got (v ∷ vs)))
 
 -- ---- the meaning of what was read from a window: the bytes of the parts
 
 abbrev pub mean : List ℕ → Value Part → Value (List ℕ)
-mean s (num z) = num z
-mean s (bytes p) = bytes (shown s p)
-mean s (strings ps) = strings (map (shown s) ps)
-
-abbrev pub means : List ℕ → Reading (List (Value Part)) → Reading (List (Value (List ℕ)))
-means s (got vs next) = got (map (mean s) vs) next
-means s runsOut = runsOut
-means s (refused r) = refused r
+mean s v = onValue num (λ p. bytes (shown s p)) (λ ps. strings (map (shown s) ps)) v

@@ -6,10 +6,13 @@ use mathlib.Core.List.{List, _++_, map}
 use lib.ListN.{length, drop}
 use Rattle.varint.specs.Laws.{Bytes, Steady, Shorter}
 use Rattle.packer.specs.declared.Part.{Part}
-use Rattle.fields.specs.Fields.{Field, Value, Reading, got, runsOut, refused, readFields, mean, means}
+use Rattle.fields.specs.Fields.{Field, Value, Reading, got, runsOut, refused, withGot, readFields, mean}
 use Rattle.fields.specs.Remarks.{remarks}
 use Rattle.fields.specs.Writing.{writeFields}
 use Rattle.fields.specs.Forms.{AllSorted, allWritable}
+
+abbrev pub means : List ℕ → Reading (List (Value Part)) → Reading (List (Value (List ℕ)))
+means s x = withGot x (λ vs. got (map (mean s) vs))
 
 -- written and read again: the same meaning, exactly the written bytes used, no remark, whatever stands before and after
 abbrev pub FieldsWrittenReads : Type 0

@@ -10,19 +10,13 @@ use Rattle.fields.specs.declared.Args.{Args}
 
 -- ---- arguments: the parts, then empty ones up to 16
 
-abbrev pub noPart : Part
-noPart = part 0 0
-
 unfoldable pub argsWith : List Part → Args
-argsWith ps = record { count = length ps; parts = ps ++ replicate (16 - length ps) noPart }
+argsWith ps = record { count = length ps; parts = ps ++ replicate (16 - length ps) (part 0 0) }
 
--- ---- an input: the client, then ten numbers
+-- ---- the ten numbers of an input
 
 abbrev pub tenFields : List Field
 tenFields = int ∷ int ∷ int ∷ int ∷ int ∷ int ∷ int ∷ int ∷ int ∷ int ∷ []
-
-abbrev pub inputFields : List Field
-inputFields = int ∷ tenFields
 
 abbrev pub zeros : ℕ → List ℤ
 zeros n = replicate n (pos 0)

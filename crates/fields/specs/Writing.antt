@@ -6,17 +6,18 @@ use lib.ListN.{length}
 use lib.Dec.{leb}
 use lib.IntN.{ℤ, pos, negsuc}
 use mir.Syntax.{w32}
-use mir.Val.{toZ}
+use mir.Val.{toZ, ofZ}
 use Rattle.varint.specs.Written.{canonical}
-use Rattle.packer.specs.Texts.{noZero, stringBytes, dataBytes}
+use Rattle.packer.specs.Texts.{stringBytes, dataBytes}
 use Rattle.packer.specs.declared.Part.{Part}
-use Rattle.fields.specs.Fields.{Field, int, dt, mask, str, uuid, blob, args, Value, num, bytes, strings, onNum, onBytes, onStrings}
+use Rattle.fields.specs.Fields.{Field, int, dt, mask, str, uuid, blob, args, Value, onValue, onNum, onBytes, onStrings}
 
--- ---- tests of strings and of dt
+-- ---- tests
 
-unfoldable pub allNoZero : List (List ℕ) → Bool
-allNoZero [] = true
-allNoZero (b ∷ bs) = noZero b && allNoZero bs
+-- of all in a list
+abbrev pub every : {A : Type 0} → (A → Bool) → List A → Bool
+every test [] = true
+every test (x ∷ xs) = test x && every test xs
 
 abbrev pub smallDt : ℤ → Bool
 smallDt (pos n) = leb n 2147483647
@@ -29,14 +30,10 @@ stringsBytes [] = []
 stringsBytes (b ∷ bs) = stringBytes b ++ stringsBytes bs
 
 -- a mask's bits are written as the i32 with those bits
-abbrev pub maskBytes : ℤ → List ℕ
-maskBytes (pos n) = canonical (toZ w32 n)
-maskBytes (negsuc n) = []
-
 abbrev pub writeField : Field → Value (List ℕ) → List ℕ
 writeField int v = onNum [] canonical v
 writeField dt v = onNum [] canonical v
-writeField mask v = onNum [] maskBytes v
+writeField mask v = onNum [] (λ z. canonical (toZ w32 (ofZ w32 z))) v
 writeField str v = onBytes [] stringBytes v
 writeField uuid v = onBytes [] (λ b. b) v
 writeField blob v = onBytes [] dataBytes v
@@ -52,15 +49,8 @@ writeFields (f ∷ fs) (v ∷ vs) = writeField f v ++ writeFields fs vs
 abbrev pub inside : List ℕ → Part → Bool
 inside s p = leb (p .at + p .len) (length s)
 
-unfoldable pub allInside : List ℕ → List Part → Bool
-allInside s [] = true
-allInside s (p ∷ ps) = inside s p && allInside s ps
-
 abbrev pub valueInside : List ℕ → Value Part → Bool
-valueInside s (num z) = true
-valueInside s (bytes p) = inside s p
-valueInside s (strings ps) = allInside s ps
+valueInside s v = onValue (λ z. true) (inside s) (every (inside s)) v
 
 abbrev pub partsInside : List ℕ → List (Value Part) → Bool
-partsInside s [] = true
-partsInside s (v ∷ vs) = valueInside s v && partsInside s vs
+partsInside s vs = every (valueInside s) vs

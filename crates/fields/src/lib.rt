@@ -2,7 +2,8 @@
 ghost use mathlib.Core.Path.{_≡_};
 ghost use mathlib.Core.List.{[]};
 ghost use Rattle.fields.specs.Fields.{args, readField, readFields, argsFrom};
-ghost use Rattle.fields.specs.Views.{zeros, tenFields, inputFields};
+ghost use Rattle.fields.specs.Views.{zeros, tenFields};
+ghost use Rattle.fields.specs.steps.Sorts.{inputFields};
 ghost use Rattle.fields.specs.steps.Reads.{readArgs, argsRead, fieldParts, inputWith, inputRead, tenRead};
 use packer::Part;
 use packer::PartRead;

@@ -3,16 +3,8 @@ ghost use mathlib.Core.Path.{_≡_};
 ghost use Prim.Native.Nat.{_<_};
 ghost use lib.ListN.{length};
 ghost use lib.Signed.{mag};
-ghost use Rattle.varint.specs.Written.{
-  signBit,
-  extend,
-  firstByte,
-  laterByte,
-  laterBytes,
-  canonical,
-  wrote,
-  written,
-};
+ghost use Rattle.varint.specs.Written.{signBit, extend, firstByte, laterByte, laterBytes, canonical, written};
+ghost use Rattle.varint.specs.steps.Writing.{wrote};
 use refusal::Refusal;
 use varint::Wrote;
 

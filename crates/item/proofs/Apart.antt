@@ -8,11 +8,12 @@ use mir.Val.{Fits, toZ, ofZ}
 use mir.ValLaws.{ofZ-toZ}
 use Rattle.packer.specs.declared.Part.{Part}
 use Rattle.fields.specs.Fields.{num, bytes}
-use Rattle.fields.specs.Views.{noPart}
+use Rattle.fields.specs.steps.Sorts.{noPart}
 use Rattle.shapes.specs.steps.Shapes.{valuesIn}
 use Rattle.shapes.specs.declared.Fields.{Fields}
 use Rattle.item.specs.Records.{Content, content}
-use Rattle.item.specs.Contents.{itemOf, firstNumber, tagCid, cidOf, tagNumber, ownFields}
+use Rattle.item.specs.Contents.{itemOf, firstNumber, tagCid, cidOf, ownFields}
+use Rattle.item.specs.Numbers.{tagNumber}
 use Rattle.item.specs.steps.Taken.{takenOf, TakenApart}
 use Rattle.kinds.specs.declared.Kind.the-variants as kinds
 use Rattle.item.specs.declared.Tag.{Tag}

@@ -1,17 +1,18 @@
 -- The records that the code hands out: for each, which it is and the values that stand in it. docs/FORMAT.md, "Records" and rule 5.
 use mathlib.Core.Bool.{cond}
 use mathlib.Core.List.{List, [], _∷_, _++_, map}
-use lib.ListN.{length, take}
-use lib.IntN.{ℤ, pos, negsuc}
+use lib.ListN.{length, getD, take}
+use lib.IntN.{ℤ, pos}
 use Rattle.packer.specs.declared.Part.{Part}
-use Rattle.fields.specs.Fields.{Field, uuid, blob, Value, num, bytes, strings}
+use Rattle.fields.specs.Fields.{Field, uuid, blob, Value, num, bytes, strings, onNum}
 use Rattle.fields.specs.Views.{zeros, argsWith}
 use Rattle.fields.specs.declared.Args.{Args}
 use Rattle.shapes.specs.steps.Shapes.{idPart}
-use Rattle.kinds.specs.Kinds.{Beside, nothing, ten, arguments, ofExtension, kindRow, kindNumber, kindCid}
+use Rattle.kinds.specs.Kinds.{Beside, ofExtension, byBeside, kindRow, kindCid}
 use Rattle.extensions.specs.Extensions.{Payload, shaped, allData, payloadAt, hasClient}
+use Rattle.extensions.specs.declared.Extension.{Extension}
 use Rattle.extensions.specs.declared.Extension.the-variants as extensions
-use Rattle.item.specs.Records.{Content, content, Rest, fields, extension, restOf}
+use Rattle.item.specs.Records.{Content, content}
 use Rattle.kinds.specs.declared.Kind.{Kind}
 use Rattle.kinds.specs.declared.Kind.the-variants as kinds
 use Rattle.item.specs.declared.Tag.{Tag}
@@ -57,43 +58,32 @@ itemOf (items.TeamSaveFailure team) = content (Named extensions.TeamSaveFailure)
 itemOf (items.TeamSaveSuccess team save-uuid save) = content (Named extensions.TeamSaveSuccess) (num team ∷ bytes (idPart save-uuid) ∷ bytes save ∷ [])
 itemOf (items.UnknownEx id load) = content Other (bytes (idPart id) ∷ bytes load ∷ [])
 
+-- an answer for a record of a kind, for one of the 20 extensions, for another extension
+abbrev pub byTag {ℓ} : {A : Type ℓ} → (Kind → A) → (Extension → A) → A → Tag → A
+byTag f g x (Plain k) = f k
+byTag f g x (Named e) = g e
+byTag f g x Other = x
+
 -- ---- the client of a record, or none
 
 abbrev pub firstNumber : List (Value Part) → ℤ
-firstNumber [] = pos 0
-firstNumber (num z ∷ vs) = z
-firstNumber (bytes p ∷ vs) = pos 0
-firstNumber (strings ps ∷ vs) = pos 0
+firstNumber vs = onNum (pos 0) (λ z. z) (getD vs 0 (num (pos 0)))
 
 abbrev pub tagCid : Tag → ℤ → Cid
-tagCid (Plain k) z = kindCid k z
-tagCid (Named e) z = cond (hasClient e) (Of z) NoCid
-tagCid Other z = NoCid
+tagCid t z = byTag (λ k. kindCid k z) (λ e. cond (hasClient e) (Of z) NoCid) NoCid t
 
 -- the largest client rises to it (rule 5)
 abbrev pub cidOf : Content Part → Cid
 cidOf c = tagCid (c .tag) (firstNumber (c .values))
 
--- the kind's number: -11 for every extension
-abbrev pub tagNumber : Tag → ℤ
-tagNumber (Plain k) = kindNumber k
-tagNumber (Named e) = negsuc 10
-tagNumber Other = negsuc 10
-
 -- ---- the fields whose values stand in a record
-
-abbrev pub ownRest : Rest → List Field
-ownRest (fields fs gs) = fs
-ownRest extension = []
 
 abbrev pub ownPayload : Payload → List Field
 ownPayload (shaped fs) = fs
 ownPayload allData = blob ∷ []
 
 abbrev pub ownFields : Tag → List Field
-ownFields (Plain k) = ownRest (restOf k)
-ownFields (Named e) = ownPayload (payloadAt e)
-ownFields Other = uuid ∷ blob ∷ []
+ownFields t = byTag (λ k. kindRow k .own) (λ e. ownPayload (payloadAt e)) (uuid ∷ blob ∷ []) t
 
 -- a record without what stands beside it
 abbrev pub ownContent : Content Part → Content Part
@@ -101,22 +91,15 @@ ownContent c = content (c .tag) (take (length (ownFields (c .tag))) (c .values))
 
 -- ---- with what stands beside the enum
 
-abbrev pub besideValues : Beside → List ℤ → Args → List (Value Part)
-besideValues nothing zs xs = []
-besideValues ten zs xs = map num zs
-besideValues arguments zs xs = strings (take (xs .count) (xs .parts)) ∷ []
-besideValues ofExtension zs xs = []
+abbrev pub besideOf : Tag → Beside
+besideOf t = byTag (λ k. kindRow k .beside) (λ e. ofExtension) ofExtension t
 
-abbrev pub besideKind : Kind → List ℤ → Args → List (Value Part)
-besideKind k zs xs = besideValues (kindRow k .beside) zs xs
-
-abbrev pub beside : Tag → List ℤ → Args → List (Value Part)
-beside (Plain k) zs xs = besideKind k zs xs
-beside (Named e) zs xs = []
-beside Other zs xs = []
+-- of arguments, the parts that the count says
+abbrev pub partsOf : Args → List Part
+partsOf xs = take (xs .count) (xs .parts)
 
 abbrev pub withBeside : Content Part → List ℤ → Args → Content Part
-withBeside c zs xs = content (c .tag) (c .values ++ beside (c .tag) zs xs)
+withBeside c zs xs = content (c .tag) (c .values ++ byBeside [] (map num zs) (strings (partsOf xs) ∷ []) [] (besideOf (c .tag)))
 
 -- a whole record
 abbrev pub recordOf : Record → Content Part
@@ -133,28 +116,11 @@ abbrev pub blank : Record
 blank = recordWith items.Finish (zeros 10) noArgs
 
 -- of what stands beside a record, that which belongs to it
-abbrev pub inputIn : Beside → List ℤ → List ℤ
-inputIn nothing zs = zeros 10
-inputIn ten zs = zs
-inputIn arguments zs = zeros 10
-inputIn ofExtension zs = zeros 10
+abbrev pub inputIn : Tag → List ℤ → List ℤ
+inputIn t zs = byBeside (zeros 10) zs (zeros 10) (zeros 10) (besideOf t)
 
-abbrev pub argsIn : Beside → Args → Args
-argsIn nothing xs = noArgs
-argsIn ten xs = noArgs
-argsIn arguments xs = argsWith (take (xs .count) (xs .parts))
-argsIn ofExtension xs = noArgs
-
-abbrev pub tidyBeside : Beside → Record → Record
-tidyBeside b r = recordWith (r .item) (inputIn b (r .input)) (argsIn b (r .args))
-
-abbrev pub tidyKind : Kind → Record → Record
-tidyKind k r = tidyBeside (kindRow k .beside) r
-
-abbrev pub tidyTag : Tag → Record → Record
-tidyTag (Plain k) r = tidyKind k r
-tidyTag (Named e) r = recordWith (r .item) (zeros 10) noArgs
-tidyTag Other r = recordWith (r .item) (zeros 10) noArgs
+abbrev pub argsIn : Tag → Args → Args
+argsIn t xs = byBeside noArgs noArgs (argsWith (partsOf xs)) noArgs (besideOf t)
 
 abbrev pub tidyRecord : Record → Record
-tidyRecord r = tidyTag (itemOf (r .item) .tag) r
+tidyRecord r = recordWith (r .item) (inputIn (itemOf (r .item) .tag) (r .input)) (argsIn (itemOf (r .item) .tag) (r .args))

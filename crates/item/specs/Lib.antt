@@ -1,4 +1,6 @@
 pub mod Said
 pub mod Records
+pub mod Remarks
 pub mod Contents
+pub mod Numbers
 pub mod steps

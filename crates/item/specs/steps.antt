@@ -1,1 +1,3 @@
 pub mod Taken
+pub mod Reading
+pub mod Beside

@@ -1,6 +1,7 @@
 // Records (format/item.rs) by the Rust's names.
 ghost use mathlib.Core.Path.{_≡_};
-ghost use Rattle.item.specs.Contents.{itemOf, cidOf, tagNumber};
+ghost use Rattle.item.specs.Contents.{itemOf, cidOf};
+ghost use Rattle.item.specs.Numbers.{tagNumber};
 ghost use Rattle.item.specs.steps.Taken.{takenOf, TakenApart};
 use extensions::Extension;
 use fields::Args;

@@ -6,7 +6,7 @@ use mathlib.Core.List.{List}
 use native.Mathlib.Omega.{arith}
 use lib.IntN.{ℤ, pos, negsuc}
 use lib.Signed.{ltZ}
-use borrow.Author.Tests.{ltb-true, ltb-false}
+use borrow.Author.Tests.{ltb-true, ltb-false, ne-eqb}
 use mir.Syntax.{w32}
 use mir.Val.{SFits, toZ, ofZ}
 use Rattle.refusal.specs.Said.{refusing}
@@ -22,10 +22,7 @@ use Rattle.kinds.specs.declared.Kind.the-variants.{PlayerDiff}
 
 -- a number whose bits are neither those of 1 nor those of 2
 pub no-version : (z : ℤ) → (ofZ w32 z ≡ 1 → ⊥) → (ofZ w32 z ≡ 2 → ⊥) → refusing UnknownVersion ≡ versionOf z
-no-version (pos zero) p q = refl
-no-version (pos (suc zero)) p q = absurd (p refl)
-no-version (pos (suc (suc zero))) p q = absurd (q refl)
-no-version (pos (suc (suc (suc n)))) p q = refl
+no-version (pos n) p q = rw (ne-eqb n 1 p, ne-eqb n 2 q)
 no-version (negsuc n) p q = refl
 
 -- ---- kinds

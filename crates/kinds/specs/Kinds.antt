@@ -1,13 +1,11 @@
 -- Kinds. docs/FORMAT.md, "Records": 0 and above PlayerDiff of that client; -1 Finish; .. -11 extension, version 2 only.
 use Prim.Native.Nat.{ℕ, zero, suc, _+_}
-use mathlib.Core.Bool.{Bool, true, false}
+use mathlib.Core.Bool.{Bool, true, false, cond}
 use mathlib.Core.List.{List, [], _∷_}
 use lib.IntN.{ℤ, pos, negsuc}
 use Rattle.refusal.specs.declared.Refusal.the-variants.{UnknownType}
 use Rattle.varint.specs.Integers.{readInt}
-use Rattle.varint.specs.declared.IntRead.{IntRead}
-use Rattle.varint.specs.declared.IntRead.the-variants as ints
-use Rattle.fields.specs.Fields.{Field, int, dt, mask, str, blob, Reading, got, runsOut, refused}
+use Rattle.fields.specs.Fields.{Field, int, dt, mask, str, blob, Reading, got, refused, withInt}
 use Rattle.kinds.specs.declared.Cid.{Cid}
 use Rattle.kinds.specs.declared.Cid.the-variants.{Of, NoCid}
 use Rattle.kinds.specs.declared.Version.{Version}
@@ -28,48 +26,30 @@ use Rattle.kinds.specs.declared.Kind.the-variants.{
   Ex,
 }
 
--- the client belongs to the kind
-abbrev pub withClient : (ℤ → Kind) → IntRead → Reading Kind
-withClient kind (ints.Got c next remark) = got (kind c) next
-withClient kind ints.RunsOut = runsOut
-
--- PlayerOld or PlayerNew of a client
-abbrev pub playerKind : Bool → ℤ → Kind
-playerKind true c = PlayerOld c
-playerKind false c = PlayerNew c
-
 -- extensions come in version 2 only
 abbrev pub hasEx : Version → Bool
 hasEx V1 = false
 hasEx V2 = true
 
-abbrev pub extensionKind : Version → ℕ → Reading Kind
-extensionKind V1 next = refused (UnknownType (negsuc 10))
-extensionKind V2 next = got Ex next
-
--- `negsuc n` is -(n + 1)
+-- by a kind's number, and for PlayerNew and PlayerOld by the client that follows it; `negsuc n` is -(n + 1)
 abbrev pub kindOf : Version → List ℕ → ℤ → ℕ → Reading Kind
 kindOf v s (pos c) next = got (PlayerDiff (pos c)) next
 kindOf v s (negsuc zero) next = got Finish next
 kindOf v s (negsuc (suc zero)) next = got TickSkip next
-kindOf v s (negsuc (suc (suc zero))) next = withClient PlayerNew (readInt s next)
-kindOf v s (negsuc (suc (suc (suc zero)))) next = withClient PlayerOld (readInt s next)
+kindOf v s (negsuc (suc (suc zero))) next = withInt (readInt s next) (λ c. got (PlayerNew c))
+kindOf v s (negsuc (suc (suc (suc zero)))) next = withInt (readInt s next) (λ c. got (PlayerOld c))
 kindOf v s (negsuc (suc (suc (suc (suc zero))))) next = got InputDiff next
 kindOf v s (negsuc (suc (suc (suc (suc (suc zero)))))) next = got InputNew next
 kindOf v s (negsuc (suc (suc (suc (suc (suc (suc zero))))))) next = got Message next
 kindOf v s (negsuc (suc (suc (suc (suc (suc (suc (suc zero)))))))) next = got Join next
 kindOf v s (negsuc (suc (suc (suc (suc (suc (suc (suc (suc zero))))))))) next = got Drop next
 kindOf v s (negsuc (suc (suc (suc (suc (suc (suc (suc (suc (suc zero)))))))))) next = got ConsoleCommand next
-kindOf v s (negsuc (suc (suc (suc (suc (suc (suc (suc (suc (suc (suc zero))))))))))) next = extensionKind v next
+kindOf v s (negsuc (suc (suc (suc (suc (suc (suc (suc (suc (suc (suc zero))))))))))) next = cond (hasEx v) (got Ex next) (refused (UnknownType (negsuc 10)))
 kindOf v s (negsuc (suc (suc (suc (suc (suc (suc (suc (suc (suc (suc (suc n)))))))))))) next = refused (UnknownType (negsuc (11 + n)))
-
-abbrev pub afterNumber : Version → List ℕ → IntRead → Reading Kind
-afterNumber v s (ints.Got z next remark) = kindOf v s z next
-afterNumber v s ints.RunsOut = runsOut
 
 -- the kind at a place
 unfoldable pub readKind : Version → List ℕ → ℕ → Reading Kind
-readKind v s at = afterNumber v s (readInt s at)
+readKind v s at = withInt (readInt s at) (kindOf v s)
 
 -- ---- the kinds, a row for each
 
@@ -80,12 +60,26 @@ pub data Client : Type 0 where
   following : ℤ → Client
   leading : Client
 
+-- an answer for each, in this order
+abbrev pub byClient {ℓ} : {A : Type ℓ} → A → (ℤ → A) → (ℤ → A) → A → Client → A
+byClient x f g y nowhere = x
+byClient x f g y (isNumber c) = f c
+byClient x f g y (following c) = g c
+byClient x f g y leading = y
+
 -- what stands beside a record: nothing, the ten numbers of an input, the arguments of a command. Or the record is an extension
 pub data Beside : Type 0 where
   nothing : Beside
   ten : Beside
   arguments : Beside
   ofExtension : Beside
+
+-- an answer for each, in this order
+abbrev pub byBeside {ℓ} : {A : Type ℓ} → A → A → A → A → Beside → A
+byBeside x y z w nothing = x
+byBeside x y z w ten = y
+byBeside x y z w arguments = z
+byBeside x y z w ofExtension = w
 
 -- what a player record does
 pub data Change : Type 0 where
@@ -126,21 +120,6 @@ kindRow Drop = is (negsuc 8) leading (int ∷ str ∷ []) nothing (other false)
 kindRow ConsoleCommand = is (negsuc 9) leading (int ∷ mask ∷ str ∷ []) arguments (other false)
 kindRow Ex = is (negsuc 10) nowhere [] ofExtension (other true)
 
--- a kind whose records have arguments beside them
-abbrev pub hasArguments : Beside → Bool
-hasArguments nothing = false
-hasArguments ten = false
-hasArguments arguments = true
-hasArguments ofExtension = false
-
-abbrev pub isCommand : Kind → Bool
-isCommand k = hasArguments (kindRow k .beside)
-
--- InputNew or InputDiff
-abbrev pub inputKind : Bool → Kind
-inputKind true = InputNew
-inputKind false = InputDiff
-
 abbrev pub kindNumber : Kind → ℤ
 kindNumber k = kindRow k .number
 
@@ -148,11 +127,5 @@ abbrev pub sortOf : Kind → Sort
 sortOf k = kindRow k .sort
 
 -- the client of a record of a kind, whose first number this is
-abbrev pub clientIs : Client → ℤ → Cid
-clientIs nowhere z = NoCid
-clientIs (isNumber c) z = Of c
-clientIs (following c) z = Of c
-clientIs leading z = Of z
-
 abbrev pub kindCid : Kind → ℤ → Cid
-kindCid k z = clientIs (kindRow k .client) z
+kindCid k z = byClient NoCid Of Of (Of z) (kindRow k .client)

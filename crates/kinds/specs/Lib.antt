@@ -1,3 +1,4 @@
 pub mod Kinds
 pub mod Magic
 pub mod Views
+pub mod steps

@@ -1,5 +1,5 @@
 -- The magic, and the versions. docs/FORMAT.md, "What a call may say"; the bytes are `UUID` of format/mod.rs.
-use Prim.Native.Nat.{ℕ, zero, suc}
+use Prim.Native.Nat.{ℕ}
 use mathlib.Core.Bool.{Bool, true, false, cond, _&&_}
 use mathlib.Core.List.{List, [], _∷_}
 use lib.ListN.{length, take}
@@ -29,8 +29,5 @@ readMagic s =
 
 -- versions 1 and 2, of no bytes; another is refusal 2
 abbrev pub versionOf : ℤ → Said Version
-versionOf (pos zero) = refusing UnknownVersion
-versionOf (pos (suc zero)) = gives V1 0
-versionOf (pos (suc (suc zero))) = gives V2 0
-versionOf (pos (suc (suc (suc n)))) = refusing UnknownVersion
+versionOf (pos n) = cond (eqb n 1) (gives V1 0) (cond (eqb n 2) (gives V2 0) (refusing UnknownVersion))
 versionOf (negsuc n) = refusing UnknownVersion

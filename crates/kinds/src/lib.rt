@@ -1,9 +1,10 @@
 // Versions and kinds (format/mod.rs, format/item.rs): what the first integer of a record says.
 ghost use mathlib.Core.Path.{_≡_};
 ghost use Rattle.varint.specs.Integers.{readInt};
-ghost use Rattle.kinds.specs.Kinds.{playerKind, withClient, kindOf, readKind, kindNumber, kindCid};
+ghost use Rattle.kinds.specs.Kinds.{kindOf, readKind, kindNumber, kindCid};
+ghost use Rattle.kinds.specs.steps.Kinds.{playerKind, withClient, kindIs};
 ghost use Rattle.kinds.specs.Magic.{versionOf};
-ghost use Rattle.kinds.specs.Views.{kindIs, versionIs};
+ghost use Rattle.kinds.specs.Views.{versionIs};
 use refusal::Refusal;
 use varint::IntRead;
 

@@ -12,7 +12,8 @@ use Rattle.refusal.specs.declared.Refusal.the-variants.{ShortTarget}
 use Rattle.varint.specs.declared.Wrote.{Wrote}
 use Rattle.varint.specs.declared.Wrote.the-variants.{Past, Refused}
 use Rattle.packer.proofs.Joined.{Put, first-fits, next-fits, two-puts}
-use Rattle.item.specs.Contents.{cidOf, tagNumber}
+use Rattle.item.specs.Contents.{cidOf}
+use Rattle.item.specs.Numbers.{tagNumber}
 use Rattle.kinds.specs.declared.Cid.{Cid}
 use Rattle.kinds.specs.declared.Cid.the-variants.{Of, NoCid}
 use Rattle.state.specs.Reading.{Event, tickStart, tickEnd, playerNew, playerChange, playerOld, input, other}

@@ -2,7 +2,7 @@
 use mathlib.Core.Path.{_≡_, refl, ap}
 use mathlib.Core.List.{List}
 use lib.IntN.{ℤ, pos}
-use Rattle.item.specs.Contents.{tagNumber}
+use Rattle.item.specs.Numbers.{tagNumber}
 use Rattle.kinds.specs.declared.Cid.{Cid}
 use Rattle.state.specs.Reading.{Event}
 use Rattle.state.specs.Slim.{slim}

@@ -16,7 +16,8 @@ use mir.Facts.{toZ-ofZ}
 use Rattle.num.proofs.Cases.{by-bool}
 use Rattle.packer.specs.Parts.{shown}
 use Rattle.packer.specs.Texts.{noZero, isData}
-use Rattle.fields.specs.Writing.{allNoZero, inside, allInside}
+use Rattle.fields.specs.Writing.{inside}
+use Rattle.fields.specs.steps.Sorts.{allNoZero, allInside}
 use Rattle.fields.specs.declared.Args.{Args}
 use Rattle.shapes.specs.declared.Fields.{Fields}
 use Rattle.item.specs.steps.Taken.{fromFields}

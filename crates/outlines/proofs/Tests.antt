@@ -16,7 +16,8 @@ use Rattle.packer.specs.Texts.{noZero}
 use Rattle.packer.specs.declared.Part.{Part}
 use Rattle.fields.specs.Fields.{int, num, mean}
 use Rattle.fields.specs.Views.{tenFields}
-use Rattle.fields.specs.Writing.{stringsBytes, allNoZero, writeFields, inside, allInside}
+use Rattle.fields.specs.Writing.{stringsBytes, writeFields, inside}
+use Rattle.fields.specs.steps.Sorts.{allNoZero, allInside}
 use Rattle.fields.specs.Forms.{allWritable}
 use Rattle.pieces.specs.steps.Pieces.{piecesBytes, piecesOk, numberPieces}
 use Rattle.pieces.specs.declared.Piece.the-variants.{Str}
@@ -83,7 +84,6 @@ module _ (s : List ℕ) where
   -- ---- strings
 
   pub strings-ok : (ps : List Part) → allInside s ps && allNoZero (map (shown s) ps) ≡ piecesOk s (map Str ps)
-  unfolding allInside allNoZero
   strings-ok [] = refl
   strings-ok (p ∷ ps) =
       crossed (inside s p) (allInside s ps) (noZero (shown s p)) (allNoZero (map (shown s) ps))

@@ -7,7 +7,8 @@ use native.Mathlib.Nat.{add-zero}
 use native.Mathlib.Numerals.{add-one}
 use lib.ListN.{length, length-append, set, drop, getD}
 use lib.Seq.{sets, length-sets, drop-cons}
-use Rattle.varint.specs.Written.{wrote, written}
+use Rattle.varint.specs.Written.{written}
+use Rattle.varint.specs.steps.Writing.{wrote}
 use Rattle.varint.specs.declared.Wrote.the-variants.{Past}
 use Rattle.varint.proofs.Writing.{fits-written, fits-answer}
 

@@ -9,7 +9,7 @@ use native.Mathlib.Numerals.{add-one}
 use lib.ListN.{length, drop, getD, length-map, length-take, List·getD-eq-default}
 use lib.Seq.{getD-take}
 use lib.IntN.{ℤ}
-use Rattle.fields.specs.Views.{noPart}
+use Rattle.fields.specs.steps.Sorts.{noPart}
 use Rattle.fields.specs.declared.Args.{Args}
 use Rattle.pieces.specs.steps.Pieces.{pieceBytes, pieceOk, piecesBytes, piecesOk, argumentsIn, argPieces, tailPieces, piecesOf, pastPieces}
 use Rattle.pieces.specs.declared.Piece.{Piece}

@@ -5,7 +5,8 @@ use lib.ListN.{take}
 use Rattle.fields.specs.Views.{argsWith}
 use Rattle.fields.specs.declared.Args.{Args}
 use Rattle.item.specs.Said.{Said, gives, more, finish, refuses}
-use Rattle.item.specs.Contents.{itemOf, besideKind, beside}
+use Rattle.item.specs.Contents.{itemOf, argsIn}
+use Rattle.item.specs.steps.Beside.{besideKind, beside}
 use Rattle.kinds.specs.declared.Kind.{Kind}
 use Rattle.kinds.specs.declared.Kind.the-variants as kinds
 use Rattle.item.specs.declared.Tag.{Tag}
@@ -18,7 +19,7 @@ use Rattle.state.specs.declared.Event as code
 use Rattle.state.specs.declared.Event.the-variants as events
 use Rattle.state.specs.declared.Answer.{Answer}
 use Rattle.state.specs.declared.Answer.the-variants as answers
-use Rattle.reader.specs.Answers.{eventWith, saidWith, kindArgs, tagArgs, eventArgs, answerArgs}
+use Rattle.reader.specs.Answers.{eventWith, saidWith, eventArgs, answerArgs}
 
 -- ---- the answer
 
@@ -58,7 +59,7 @@ same-answer a b xs ys e = sym (answer-by a xs) ∙ ap answerBy e ∙ answer-by b
 -- ---- the arguments
 
 module _ (xs ys : Args) where
-  kind-args : (k : Kind) → kindArgs k xs ≡ xs → kindArgs k ys ≡ ys → besideKind k [] xs ≡ besideKind k [] ys → xs ≡ ys
+  kind-args : (k : Kind) → argsIn (Plain k) xs ≡ xs → argsIn (Plain k) ys ≡ ys → besideKind k [] xs ≡ besideKind k [] ys → xs ≡ ys
   kind-args (kinds.PlayerDiff c) x y e = sym x ∙ y
   kind-args kinds.Finish x y e = sym x ∙ y
   kind-args kinds.TickSkip x y e = sym x ∙ y
@@ -73,7 +74,7 @@ module _ (xs ys : Args) where
       let t : take (xs .count) (xs .parts) ≡ take (ys .count) (ys .parts) = cc in sym x ∙ ap argsWith t ∙ y
   kind-args kinds.Ex x y e = sym x ∙ y
 
-  tag-args : (t : Tag) → tagArgs t xs ≡ xs → tagArgs t ys ≡ ys → beside t [] xs ≡ beside t [] ys → xs ≡ ys
+  tag-args : (t : Tag) → argsIn t xs ≡ xs → argsIn t ys ≡ ys → beside t [] xs ≡ beside t [] ys → xs ≡ ys
   tag-args (Plain k) x y e = kind-args k x y e
   tag-args (Named k) x y e = sym x ∙ y
   tag-args Other x y e = sym x ∙ y

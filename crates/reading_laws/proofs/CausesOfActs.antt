@@ -16,7 +16,8 @@ use Rattle.varint.specs.declared.Remark.{Remark}
 use Rattle.varint.specs.declared.IntRead.{IntRead}
 use Rattle.varint.specs.declared.IntRead.the-variants as ints
 use Rattle.packer.specs.declared.Part.{Part}
-use Rattle.fields.specs.Fields.{num, got, refused, dtField, andThen, readFields}
+use Rattle.fields.specs.Fields.{num, got, refused, readFields}
+use Rattle.fields.specs.steps.Sorts.{dtField, andThen}
 use Rattle.fields.specs.Views.{numbers}
 use Rattle.item.specs.Said.{Said, gives, more, finish, refuses, refusing}
 use Rattle.kinds.specs.Kinds.{readKind}

@@ -15,7 +15,8 @@ use Rattle.varint.specs.Laws.{Bytes}
 use Rattle.varint.specs.declared.Wrote.{Wrote}
 use Rattle.varint.specs.declared.Wrote.the-variants.{Past}
 use Rattle.fields.specs.Fields.{runsOut}
-use Rattle.item.specs.Records.{meaning, readRecord, recordCall, recordRemarks}
+use Rattle.item.specs.Records.{meaning, readRecord, recordCall}
+use Rattle.item.specs.Remarks.{recordRemarks}
 use Rattle.item.specs.Contents.{recordOf}
 use Rattle.kinds.specs.declared.Version.{Version}
 use Rattle.item.specs.declared.Record.{Record}

@@ -5,7 +5,8 @@ use mathlib.Core.List.{List, [], _++_}
 use native.Mathlib.Omega.{arith}
 use native.Mathlib.Nat.{add-zero}
 use lib.ListN.{length, length-append}
-use Rattle.varint.specs.Written.{wrote, written}
+use Rattle.varint.specs.Written.{written}
+use Rattle.varint.specs.steps.Writing.{wrote}
 use Rattle.varint.specs.declared.Wrote.{Wrote}
 use Rattle.varint.specs.declared.Wrote.the-variants.{Past}
 use Rattle.varint.proofs.Writing.{fits-answer}

@@ -9,7 +9,8 @@ use lib.Dec.{leb}
 use borrow.Author.Tests.{leb-true, leb-false}
 use Rattle.num.proofs.Cases.{by-bool}
 use Rattle.refusal.specs.declared.Refusal.the-variants as refusals
-use Rattle.varint.specs.Written.{wroteIf, writtenIf}
+use Rattle.varint.specs.Written.{writtenIf}
+use Rattle.varint.specs.steps.Writing.{wroteIf}
 use Rattle.varint.specs.declared.Wrote.{Wrote}
 use Rattle.varint.specs.declared.Wrote.the-variants.{Refused}
 use Rattle.varint.proofs.Writing.{short}

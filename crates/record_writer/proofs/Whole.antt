@@ -3,7 +3,8 @@ use Prim.Native.Nat.{ℕ}
 use mathlib.Core.Path.{_≡_, refl, sym, _∙_, ap}
 use mathlib.Core.Bool.{Bool, true, false}
 use mathlib.Core.List.{List}
-use Rattle.varint.specs.Written.{wroteIf, writtenIf, wroteSaid}
+use Rattle.varint.specs.Written.{writtenIf, wroteSaid}
+use Rattle.varint.specs.steps.Writing.{wroteIf}
 use Rattle.varint.specs.declared.Wrote.{Wrote}
 use Rattle.varint.proofs.Theorems.{writers-say}
 use Rattle.packer.specs.declared.Part.{Part}

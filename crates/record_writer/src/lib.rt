@@ -1,7 +1,8 @@
 // The writer of records (added to the Rust's): a record and the bytes lent with it, into a target at a place.
 ghost use mathlib.Core.Path.{_≡_};
 ghost use lib.ListN.{length};
-ghost use Rattle.varint.specs.Written.{written, wrote, writtenIf, wroteIf};
+ghost use Rattle.varint.specs.Written.{written, writtenIf};
+ghost use Rattle.varint.specs.steps.Writing.{wrote, wroteIf};
 ghost use Rattle.fields.specs.Writing.{inside};
 ghost use Rattle.extensions.specs.Extensions.{idAt};
 ghost use Rattle.item.specs.steps.Taken.{fromFields};

@@ -16,8 +16,10 @@ use Rattle.extensions.specs.Extensions.{Payload, shaped, allData, payloadAt, fi
 use Rattle.extensions.specs.declared.Extension.{Extension}
 use Rattle.extensions.specs.declared.Found.{Found}
 use Rattle.extensions.specs.declared.Found.the-variants.{Known, Unknown}
-use Rattle.item.specs.Records.{Content, content, asContent, upTo, ofPayload, ofFound, afterData, afterId, readEx, readRest}
-use Rattle.item.specs.Contents.{itemOf, ownFields, beside, noArgs, recordWith, recordOf, tidyTag}
+use Rattle.item.specs.Records.{Content, content, asContent, ofPayload, ofFound, readEx, readRest}
+use Rattle.item.specs.steps.Reading.{upTo, afterData, afterId}
+use Rattle.item.specs.Contents.{itemOf, ownFields, noArgs, recordWith, recordOf}
+use Rattle.item.specs.steps.Beside.{beside, tidyTag}
 use Rattle.kinds.specs.declared.Kind.{Kind}
 use Rattle.kinds.specs.declared.Kind.the-variants as kinds
 use Rattle.item.specs.declared.Tag.{Tag}

@@ -9,24 +9,8 @@ use Rattle.varint.specs.Integers.{readInt}
 use Rattle.varint.specs.declared.IntRead.{IntRead}
 use Rattle.varint.specs.declared.IntRead.the-variants as ints
 use Rattle.packer.specs.declared.Part.{Part}
-use Rattle.fields.specs.Fields.{
-  args,
-  Value,
-  num,
-  bytes,
-  strings,
-  Reading,
-  got,
-  runsOut,
-  refused,
-  asStrings,
-  argsFrom,
-  argsField,
-  readField,
-  push,
-  andThen,
-  readFields,
-}
+use Rattle.fields.specs.Fields.{args, Value, num, bytes, strings, Reading, got, runsOut, refused, argsFrom, readField, readFields}
+use Rattle.fields.specs.steps.Sorts.{asStrings, argsField, push, andThen}
 use Rattle.fields.specs.Views.{zeros, argsWith}
 use Rattle.fields.specs.steps.Reads.{argsRead, fieldParts}
 use Rattle.fields.specs.declared.ArgsAnswer.{ArgsAnswer}

@@ -10,8 +10,9 @@ use Rattle.varint.specs.Integers.{readInt}
 use Rattle.varint.specs.declared.IntRead.{IntRead}
 use Rattle.varint.specs.declared.IntRead.the-variants as ints
 use Rattle.packer.specs.declared.Part.{Part}
-use Rattle.fields.specs.Fields.{int, Value, num, Reading, got, runsOut, refused, intField, push, andThen, readFields}
-use Rattle.fields.specs.Views.{inputFields, numbers}
+use Rattle.fields.specs.Fields.{int, Value, num, Reading, got, runsOut, refused, readFields}
+use Rattle.fields.specs.steps.Sorts.{intField, push, andThen, inputFields}
+use Rattle.fields.specs.Views.{numbers}
 use Rattle.fields.specs.steps.Reads.{inputRead}
 use Rattle.fields.specs.declared.InputAnswer.{InputAnswer}
 use Rattle.fields.specs.declared.InputAnswer.the-variants as inputs
@@ -21,7 +22,7 @@ use Rattle.item.specs.Contents.{recordWith, noArgs}
 use Rattle.item.specs.declared.Item.the-variants as records
 use Rattle.item.specs.declared.Tag.the-variants.{Plain}
 use Rattle.records.specs.steps.Views.{inputItem, recordRead, alone, readIs, tidyAnswer, RestRead}
-use Rattle.kinds.specs.Kinds.{inputKind}
+use Rattle.kinds.specs.steps.Kinds.{inputKind}
 use Rattle.records.specs.declared.RecordRead.{RecordRead}
 use Rattle.records.specs.declared.RecordAnswer.the-variants as answers
 

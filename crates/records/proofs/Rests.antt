@@ -26,7 +26,7 @@ use Rattle.kinds.specs.declared.Kind.{Kind}
 use Rattle.kinds.specs.declared.Kind.the-variants as kinds
 use Rattle.item.specs.declared.Tag.the-variants.{Plain}
 use Rattle.records.specs.steps.Views.{restCode}
-use Rattle.kinds.specs.Kinds.{inputKind}
+use Rattle.kinds.specs.steps.Kinds.{inputKind}
 use Rattle.records.specs.declared.Rest.{Rest}
 use Rattle.records.specs.declared.Rest.the-variants as rests
 

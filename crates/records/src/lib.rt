@@ -8,7 +8,7 @@ ghost use Rattle.item.specs.Contents.{itemOf, ownFields, recordWith, noArgs};
 ghost use Rattle.item.specs.steps.Taken.{fromFields};
 ghost use Rattle.item.specs.declared.Tag.the-variants.{Plain};
 ghost use Rattle.records.specs.steps.Views.{itemIs, own, readIs, restCode, isShaped, recordRead, inputItem, headIs, commandRead, wholeOf, RestRead, RecordAt};
-ghost use Rattle.kinds.specs.Kinds.{inputKind};
+ghost use Rattle.kinds.specs.steps.Kinds.{inputKind};
 use extension_records::ExRead;
 use fields::Args;
 use fields::ArgsAnswer;

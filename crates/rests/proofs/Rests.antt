@@ -11,8 +11,9 @@ use Rattle.varint.specs.declared.Remark.{Remark}
 use Rattle.varint.specs.declared.IntRead.{IntRead}
 use Rattle.varint.specs.declared.IntRead.the-variants as ints
 use Rattle.packer.specs.declared.Part.{Part}
-use Rattle.fields.specs.Fields.{Value, Reading, got, runsOut, refused, dtField, andThen, readFields}
-use Rattle.fields.specs.Views.{numbers, inputFields}
+use Rattle.fields.specs.Fields.{Value, Reading, got, runsOut, refused, readFields}
+use Rattle.fields.specs.steps.Sorts.{dtField, andThen, inputFields}
+use Rattle.fields.specs.Views.{numbers}
 use Rattle.fields.specs.steps.Reads.{inputRead}
 use Rattle.fields.specs.declared.InputAnswer.{InputAnswer}
 use Rattle.fields.specs.declared.InputAnswer.the-variants as inputs
@@ -26,7 +27,7 @@ use Rattle.item.specs.Records.{asContent, readRest}
 use Rattle.kinds.specs.declared.Kind.the-variants as kinds
 use Rattle.item.specs.declared.Tag.the-variants.{Plain}
 use Rattle.kinds.specs.declared.Cid.the-variants.{Of}
-use Rattle.kinds.specs.Kinds.{inputKind}
+use Rattle.kinds.specs.steps.Kinds.{inputKind}
 use Rattle.records.proofs.Inputs.{Numbers, all-numbers}
 use Rattle.state.specs.State.{Memory}
 use Rattle.state.specs.Reading.{Step, stepOf, refusalStep, outOf, closing, naming, raising, playerDiff, newPlayer, oldPlayer, inputDiff, inputNew, tickSkip, first, apply}

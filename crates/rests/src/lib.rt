@@ -3,7 +3,7 @@ ghost use mathlib.Core.Path.{_≡_};
 ghost use mathlib.Core.Bool.{true};
 ghost use Rattle.item.specs.Records.{readRest};
 ghost use Rattle.item.specs.Said.{finish};
-ghost use Rattle.kinds.specs.Kinds.{inputKind};
+ghost use Rattle.kinds.specs.steps.Kinds.{inputKind};
 ghost use Rattle.state.specs.State.{Memory};
 ghost use Rattle.state.specs.Reading.{stepOf, closing};
 ghost use Rattle.state.specs.Slim.{slimStep};

@@ -11,7 +11,8 @@ use lib.IntN.{ℤ, pos, negsuc}
 use mir.Syntax.{w32}
 use mir.Val.{SFits, ofZ}
 use Rattle.num.proofs.Signs.{key}
-use Rattle.item.specs.Contents.{cidOf, tagNumber}
+use Rattle.item.specs.Contents.{cidOf}
+use Rattle.item.specs.Numbers.{tagNumber}
 use Rattle.kinds.specs.declared.Cid.{Cid}
 use Rattle.kinds.specs.declared.Cid.the-variants.{Of, NoCid}
 use Rattle.state.specs.Reading.{Event, tickStart, tickEnd, playerNew, playerChange, playerOld, input, other}

@@ -5,7 +5,8 @@ use mathlib.Core.List.{List, [], _∷_, _++_}
 use lib.ListN.{length, take, drop}
 use lib.IntN.{ℤ, pos}
 use Rattle.num.specs.Wrap.{wrap32}
-use Rattle.item.specs.Contents.{cidOf, tagNumber}
+use Rattle.item.specs.Contents.{cidOf}
+use Rattle.item.specs.Numbers.{tagNumber}
 use Rattle.kinds.specs.declared.Cid.{Cid}
 use Rattle.kinds.specs.declared.Cid.the-variants.{Of, NoCid}
 use Rattle.state.specs.Reading.{Event, tickStart, tickEnd, playerNew, playerChange, playerOld, input, other}

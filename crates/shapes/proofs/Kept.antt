@@ -18,7 +18,8 @@ use Rattle.packer.specs.declared.Part.{Part}
 use Rattle.packer.specs.declared.PartRead.{PartRead}
 use Rattle.packer.specs.declared.PartRead.the-variants as parts
 use Rattle.packer.proofs.Parts.{raw-got}
-use Rattle.fields.specs.Fields.{int, Value, num, bytes, Reading, runsOut, intField, partField, push, andThen, readFields}
+use Rattle.fields.specs.Fields.{int, Value, num, bytes, Reading, runsOut, readFields}
+use Rattle.fields.specs.steps.Sorts.{intField, partField, push, andThen}
 use Rattle.shapes.specs.steps.Shapes.{fieldsIn, idPart, Shows, isNothing, onInt, onPart}
 use Rattle.shapes.specs.declared.Shape.{Shape}
 use Rattle.shapes.specs.declared.Shape.the-variants.{Nothing, Int, IntInt, IntStr, IntIntStr, IntUuidStr, IntUuidIntStr, IntData}

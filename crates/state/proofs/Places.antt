@@ -16,26 +16,14 @@ use Rattle.packer.specs.declared.PartRead.the-variants as parts
 use Rattle.packer.proofs.Parts.{data-taken}
 use Rattle.fields.specs.Fields.{Field, Value, Reading, got, runsOut, refused, readFields}
 use Rattle.fields.proofs.AllTaken.{fields-taken}
-use Rattle.kinds.specs.Kinds.{withClient, extensionKind, kindOf, afterNumber, readKind}
+use Rattle.kinds.specs.Kinds.{kindOf, readKind}
+use Rattle.kinds.specs.steps.Kinds.{withClient, extensionKind, afterNumber}
 use Rattle.extensions.specs.Extensions.{Payload, shaped, allData, find, payloadAt}
 use Rattle.extensions.specs.declared.Extension.{Extension}
 use Rattle.extensions.specs.declared.Found.{Found}
 use Rattle.extensions.specs.declared.Found.the-variants.{Known, Unknown}
-use Rattle.item.specs.Records.{
-  Content,
-  Rest,
-  fields,
-  restOf,
-  asContent,
-  upTo,
-  ofPayload,
-  ofFound,
-  afterData,
-  afterId,
-  readEx,
-  readAs,
-  readRest,
-}
+use Rattle.item.specs.Records.{Content, Rest, fields, restOf, asContent, ofPayload, ofFound, readEx, readAs, readRest}
+use Rattle.item.specs.steps.Reading.{upTo, afterData, afterId}
 use Rattle.item.specs.Records as records
 use Rattle.kinds.specs.declared.Version.{Version}
 use Rattle.kinds.specs.declared.Version.the-variants.{V1, V2}

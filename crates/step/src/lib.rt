@@ -1,7 +1,7 @@
 // One reading call on an open reader whose entries are lent: the pending kind or a kind that is read, the tick rules, the record and what
 // it changes (crate rests). Every public form of reading goes through `open_call`.
 ghost use mathlib.Core.Path.{_≡_};
-ghost use Rattle.kinds.specs.Views.{kindIs};
+ghost use Rattle.kinds.specs.steps.Kinds.{kindIs};
 ghost use Rattle.state.specs.Reading.{nextKind, withRule, openCall, goodCall};
 ghost use Rattle.state.specs.Slim.{slimStep};
 ghost use Rattle.state.specs.steps.Inside.{memory, done};

@@ -2,7 +2,8 @@
 ghost use mathlib.Core.Path.{_≡_};
 ghost use Prim.Native.Nat.{_+_, _≤_};
 ghost use lib.ListN.{length};
-ghost use Rattle.varint.specs.Written.{written, wrote, writtenIf, wroteIf};
+ghost use Rattle.varint.specs.Written.{written, writtenIf};
+ghost use Rattle.varint.specs.steps.Writing.{wrote, wroteIf};
 ghost use Rattle.packer.specs.Texts.{noZero, stringBytes, isData, dataBytes};
 use refusal::Refusal;
 use varint::Wrote;

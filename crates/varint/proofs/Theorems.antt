@@ -12,7 +12,8 @@ use Rattle.num.proofs.Cases.{by-bool}
 use Rattle.refusal.specs.Said.{gives, refusing}
 use Rattle.refusal.specs.declared.Refusal.the-variants.{ShortTarget}
 use Rattle.varint.specs.Integers.{readFrom, readInt}
-use Rattle.varint.specs.Written.{fitsAt, wrote, wroteSaid, writing}
+use Rattle.varint.specs.Written.{fitsAt, wroteSaid, writing}
+use Rattle.varint.specs.steps.Writing.{wrote}
 use Rattle.varint.specs.Laws.{IntWrittenReads, IntReadsWritten, WritersSay, Steady, Shorter, intOut, IntSteady}
 use Rattle.varint.specs.declared.IntRead.{IntRead}
 use Rattle.varint.specs.declared.IntRead.the-variants.{Got, RunsOut}

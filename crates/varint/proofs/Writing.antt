@@ -12,7 +12,8 @@ use lib.Dec.{eqb}
 use lib.IntN.{ℤ, pos, negsuc}
 use lib.Signed.{mag}
 use borrow.Author.Tests.{ne-eqb, le-leb, lt-leb}
-use Rattle.varint.specs.Written.{signBit, extend, laterByte, laterBytes, canonical, written, wrote}
+use Rattle.varint.specs.Written.{signBit, extend, laterByte, laterBytes, canonical, written}
+use Rattle.varint.specs.steps.Writing.{wrote}
 use Rattle.refusal.specs.declared.Refusal.the-variants.{ShortTarget}
 use Rattle.varint.specs.declared.Wrote.the-variants.{Past, Refused}
 

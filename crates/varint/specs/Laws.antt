@@ -8,7 +8,8 @@ use lib.IntN.{ℤ}
 use mir.Syntax.{w32}
 use mir.Val.{SFits}
 use Rattle.varint.specs.Integers.{readInt}
-use Rattle.varint.specs.Written.{canonical, wroteIf, wroteSaid, writing}
+use Rattle.varint.specs.Written.{canonical, wroteSaid, writing}
+use Rattle.varint.specs.steps.Writing.{wroteIf}
 use Rattle.varint.specs.declared.Remark.the-variants.{None}
 use Rattle.varint.specs.declared.IntRead.{IntRead}
 use Rattle.varint.specs.declared.IntRead.the-variants.{Got, RunsOut}

@@ -2,3 +2,4 @@ pub mod Integers
 pub mod Marked
 pub mod Written
 pub mod Laws
+pub mod steps

@@ -44,16 +44,9 @@ fitsAt xs at bs = leb (at + length bs) (length xs)
 unfoldable pub written : List ℕ → ℕ → List ℕ → List ℕ
 written xs at bs = cond (fitsAt xs at bs) (take at xs ++ bs ++ drop (at + length bs) xs) xs
 
--- the place past them; refusal 9 where they don't fit
-unfoldable pub wrote : List ℕ → ℕ → List ℕ → Wrote
-wrote xs at bs = cond (fitsAt xs at bs) (Past (at + length bs)) (Refused ShortTarget)
-
 -- what has a written form only under a condition: refusal 11 comes first
 abbrev pub writtenIf : Bool → List ℕ → ℕ → List ℕ → List ℕ
 writtenIf ok xs at bs = cond ok (written xs at bs) xs
-
-abbrev pub wroteIf : Bool → List ℕ → ℕ → List ℕ → Wrote
-wroteIf ok xs at bs = cond ok (wrote xs at bs) (Refused Unwritable)
 
 -- ---- what writing says
 

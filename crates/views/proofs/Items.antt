@@ -6,7 +6,8 @@ use lib.ListN.{getD}
 use lib.IntN.{ℤ, pos, negsuc}
 use Rattle.packer.specs.declared.Part.{Part}
 use Rattle.fields.specs.Fields.{Value, num, bytes, strings}
-use Rattle.fields.specs.Views.{noPart, numbers}
+use Rattle.fields.specs.Views.{numbers}
+use Rattle.fields.specs.steps.Sorts.{noPart}
 use Rattle.fields.specs.declared.Args.{Args}
 use Rattle.extensions.specs.declared.Extension.{Extension}
 use Rattle.extensions.specs.declared.Extension.the-variants as extensions

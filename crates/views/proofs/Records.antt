@@ -8,7 +8,8 @@ use Rattle.fields.specs.Fields.{Value, num}
 use Rattle.fields.specs.Views.{zeros, numbers}
 use Rattle.fields.specs.declared.Args.{Args}
 use Rattle.item.specs.Records.{Content}
-use Rattle.item.specs.Contents.{itemOf, besideValues, beside, withBeside, noArgs, recordWith, tidyBeside, tidyTag}
+use Rattle.item.specs.Contents.{itemOf, withBeside, noArgs, recordWith}
+use Rattle.item.specs.steps.Beside.{besideValues, beside, tidyBeside, tidyTag}
 use Rattle.kinds.specs.Kinds.{Beside, nothing, ten, arguments, ofExtension, kindRow}
 use Rattle.item.specs.declared.Tag.{Tag}
 use Rattle.item.specs.declared.Tag.the-variants.{Plain, Named, Other}

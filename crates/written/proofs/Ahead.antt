@@ -13,41 +13,16 @@ use Rattle.packer.specs.Parts.{shown, readRaw, stringFrom, readString, dataOf, 
 use Rattle.packer.specs.declared.Part.{Part}
 use Rattle.packer.specs.declared.PartRead.{PartRead}
 use Rattle.packer.specs.declared.PartRead.the-variants as parts
-use Rattle.fields.specs.Fields.{
-  Field,
-  int,
-  dt,
-  mask,
-  str,
-  uuid,
-  blob,
-  args,
-  Value,
-  Reading,
-  got,
-  runsOut,
-  refused,
-  intField,
-  dtFrom,
-  dtField,
-  maskField,
-  partField,
-  oneArg,
-  argsFrom,
-  asStrings,
-  argsOf,
-  argsField,
-  readField,
-  push,
-  andThen,
-  readFields,
-}
-use Rattle.kinds.specs.Kinds.{withClient, extensionKind, kindOf, afterNumber, readKind}
+use Rattle.fields.specs.Fields.{Field, int, dt, mask, str, uuid, blob, args, Value, Reading, got, runsOut, refused, argsFrom, readField, readFields}
+use Rattle.fields.specs.steps.Sorts.{intField, dtFrom, dtField, maskField, partField, oneArg, asStrings, argsOf, argsField, push, andThen}
+use Rattle.kinds.specs.Kinds.{kindOf, readKind}
+use Rattle.kinds.specs.steps.Kinds.{withClient, extensionKind, afterNumber}
 use Rattle.extensions.specs.Extensions.{Payload, shaped, allData, find, payloadAt}
 use Rattle.extensions.specs.declared.Extension.{Extension}
 use Rattle.extensions.specs.declared.Found.{Found}
 use Rattle.extensions.specs.declared.Found.the-variants.{Known, Unknown}
-use Rattle.item.specs.Records.{Rest, fields, extension, Content, asContent, upTo, ofPayload, ofFound, afterData, afterId, readEx, readAs, restOf, readRest}
+use Rattle.item.specs.Records.{Rest, fields, extension, Content, asContent, ofPayload, ofFound, readEx, readAs, restOf, readRest}
+use Rattle.item.specs.steps.Reading.{upTo, afterData, afterId}
 use Rattle.kinds.specs.declared.Version.{Version}
 use Rattle.kinds.specs.declared.Version.the-variants.{V1, V2}
 use Rattle.kinds.specs.declared.Kind.{Kind}

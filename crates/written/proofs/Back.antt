@@ -21,7 +21,8 @@ use Rattle.extensions.specs.Extensions.{Payload, shaped, allData, idAt, payload
 use Rattle.extensions.specs.declared.Extension.{Extension}
 use Rattle.extensions.specs.declared.Found.{Found}
 use Rattle.extensions.specs.declared.Found.the-variants.{Known, Unknown}
-use Rattle.item.specs.Records.{content, Rest, fields, extension, restOf, ofPayload, ofFound, readRest, readRecord, payloadRemarks, foundRemarks, recordRemarks}
+use Rattle.item.specs.Records.{content, Rest, fields, extension, restOf, ofPayload, ofFound, readRest, readRecord}
+use Rattle.item.specs.Remarks.{payloadRemarks, foundRemarks, recordRemarks}
 use Rattle.item.specs.Contents.{ownPayload}
 use Rattle.kinds.specs.declared.Version.{Version}
 use Rattle.kinds.specs.declared.Kind.{Kind}
@@ -29,7 +30,7 @@ use Rattle.kinds.specs.declared.Kind.the-variants as kinds
 use Rattle.item.specs.declared.Tag.{Tag}
 use Rattle.item.specs.declared.Tag.the-variants.{Plain, Named, Other}
 use Rattle.ids.proofs.Table.{id-found, id-length}
-use Rattle.written.specs.Written.{kindBytes, allFields, firstBytes, secondBytes, payloadBytes, exBytes, tagBytes, hasEx}
+use Rattle.written.specs.Written.{kindBytes, allFields, bytesAt, payloadBytes, exBytes, tagBytes, hasEx}
 use Rattle.written.specs.Form.{kindWritable, payloadWritable, tagWritable}
 use Rattle.written.specs.Laws.{meant, kindNumbers}
 use Rattle.written.proofs.KindLaws.{Allowed, ex-only, kind-back}
@@ -73,7 +74,7 @@ rest-back v k extension ms e numbers sorted w after = absurd (false≢true (rw (
 -- ---- extensions
 
 -- the values of data that are one part, and of another extension
-one-part : (ms : List (Value (List ℕ))) → AllSorted (blob ∷ []) ms → ms ≡ bytes (firstBytes ms) ∷ []
+one-part : (ms : List (Value (List ℕ))) → AllSorted (blob ∷ []) ms → ms ≡ bytes (bytesAt 0 ms) ∷ []
 one-part [] sorted = absurd sorted
 one-part (num z ∷ ms) sorted = absurd (sorted .0)
 one-part (bytes b ∷ []) sorted = refl
@@ -81,7 +82,7 @@ one-part (bytes b ∷ m ∷ ms) sorted = absurd (sorted .1)
 one-part (strings bs ∷ ms) sorted = absurd (sorted .0)
 
 two-parts : (ms : List (Value (List ℕ))) → AllSorted (uuid ∷ blob ∷ []) ms
-    → (length (firstBytes ms) ≡ 16) × (ms ≡ bytes (firstBytes ms) ∷ bytes (secondBytes ms) ∷ [])
+    → (length (bytesAt 0 ms) ≡ 16) × (ms ≡ bytes (bytesAt 0 ms) ∷ bytes (bytesAt 1 ms) ∷ [])
 two-parts [] sorted = absurd sorted
 two-parts (num z ∷ ms) sorted = absurd (sorted .0)
 two-parts (bytes b ∷ ms) sorted = (sorted .0, ap (λ l. bytes b ∷ l) (one-part ms (sorted .1)))
@@ -160,8 +161,8 @@ named-back v k ms sorted w after =
 other-back : (v : Version) (ms : List (Value (List ℕ))) → SortedContent Other ms → tagWritable v Other ms ≡ true → (after : List ℕ)
     → Reads v (tagBytes Other ms ++ after) Other ms (length (tagBytes Other ms))
 other-back v ms sorted w after =
-    let id = firstBytes ms in
-    let load = secondBytes ms in
+    let id = bytesAt 0 ms in
+    let load = bytesAt 1 ms in
     let o = and-split (hasEx v) (isUnknown (find id) && isData load) w in
     let p = and-split (isUnknown (find id)) (isData load) (o .1) in
     let t = two-parts ms sorted in

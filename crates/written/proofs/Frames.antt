@@ -20,7 +20,8 @@ use Rattle.packer.proofs.Texts.{lead}
 use Rattle.fields.specs.Fields.{Field, Value, got, readFields, mean}
 use Rattle.fields.proofs.AllTaken.{fields-taken}
 use Rattle.extensions.specs.Extensions.{find}
-use Rattle.item.specs.Records.{ofFound, readEx, foundRemarks, exRemarks}
+use Rattle.item.specs.Records.{ofFound, readEx}
+use Rattle.item.specs.Remarks.{foundRemarks, exRemarks}
 use Rattle.kinds.specs.declared.Kind.the-variants as kinds
 use Rattle.written.specs.Written.{kindBytes, exBytes}
 

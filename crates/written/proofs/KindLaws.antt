@@ -24,9 +24,10 @@ use Rattle.fields.specs.Fields.{int, num, got, refused}
 use Rattle.fields.specs.Remarks.{remarkIn}
 use Rattle.fields.proofs.Answers.{not-out, not-refused, same-got}
 use Rattle.fields.proofs.Taken.{field-taken}
-use Rattle.kinds.specs.Kinds as item
-use Rattle.kinds.specs.Kinds.{withClient, kindOf, afterNumber, readKind, kindNumber}
-use Rattle.item.specs.Records.{Rest, fields, extension, restOf, clientRemark}
+use Rattle.kinds.specs.Kinds.{kindOf, readKind, kindNumber}
+use Rattle.kinds.specs.steps.Kinds.{withClient, extensionKind, afterNumber}
+use Rattle.item.specs.Records.{Rest, fields, extension, restOf}
+use Rattle.item.specs.Remarks.{clientRemark}
 use Rattle.kinds.specs.declared.Version.{Version}
 use Rattle.kinds.specs.declared.Version.the-variants.{V1, V2}
 use Rattle.kinds.specs.declared.Kind.{Kind}
@@ -156,7 +157,7 @@ pub record KindBack (v : Version) (k : Kind) (s : List ℕ) (at : ℕ) : Type 0 
   pub reads : readKind v s at ≡ got k (at + length (kindBytes k))
   pub clean : kindRemarks k s at ≡ 0
 
-ex-kind : (v : Version) (n : ℕ) → hasEx v ≡ true → item.extensionKind v n ≡ got kinds.Ex n
+ex-kind : (v : Version) (n : ℕ) → hasEx v ≡ true → extensionKind v n ≡ got kinds.Ex n
 ex-kind V1 n a = absurd (false≢true a)
 ex-kind V2 n a = refl
 
@@ -189,7 +190,7 @@ module _ (v : Version) (s rest : List ℕ) (at : ℕ) where
       let n : at + length a + length (canonical c) ≡ at + length (a ++ canonical c) = omega (arith, length-append a (canonical c)) in
       record {
         reads = rw (r, is, q, n, x);
-        clean = rw (r, mark, q);
+        clean = rw (r, mark (at + length a), q);
       }
 
   pub kind-back : (k : Kind) → kindNumbers k → Allowed v k (restOf k) → drop at s ≡ kindBytes k ++ rest → KindBack v k s at

@@ -12,11 +12,14 @@ use Rattle.packer.specs.Parts.{shown}
 use Rattle.packer.specs.declared.Part.{Part}
 use Rattle.fields.specs.Fields.{int, mask, str, args, Value, strings, got, mean}
 use Rattle.fields.specs.Views.{argsWith}
-use Rattle.fields.specs.Writing.{allNoZero, partsInside}
+use Rattle.fields.specs.Writing.{partsInside}
+use Rattle.fields.specs.steps.Sorts.{allNoZero}
 use Rattle.fields.specs.Forms.{writable, allWritable}
 use Rattle.fields.proofs.Answers.{and-both, and-split}
-use Rattle.item.specs.Records.{meaning, readRecord, recordRemarks}
-use Rattle.item.specs.Contents.{itemOf, ownFields, beside, recordOf, tidyKind, tidyTag, tidyRecord}
+use Rattle.item.specs.Records.{meaning, readRecord}
+use Rattle.item.specs.Remarks.{recordRemarks}
+use Rattle.item.specs.Contents.{itemOf, ownFields, recordOf, tidyRecord}
+use Rattle.item.specs.steps.Beside.{beside, tidyKind, tidyTag}
 use Rattle.kinds.specs.declared.Version.{Version}
 use Rattle.kinds.specs.declared.Kind.{Kind}
 use Rattle.kinds.specs.declared.Kind.the-variants as kinds
@@ -24,7 +27,7 @@ use Rattle.item.specs.declared.Tag.{Tag}
 use Rattle.item.specs.declared.Tag.the-variants.{Plain, Named, Other}
 use Rattle.item.specs.declared.Record.{Record}
 use Rattle.item.proofs.Lengths.{lengths}
-use Rattle.written.specs.Written.{argCount, tagCount, recordBytes}
+use Rattle.written.specs.Written.{tagCount, recordBytes}
 use Rattle.written.specs.Form.{tagWritable, contentWritable, hasForm}
 use Rattle.written.proofs.Whole.{record-same}
 
@@ -52,7 +55,7 @@ module _ (v : Version) (s : List ℕ) (xs : List (Value Part)) (r : Record) wher
       rw (← n, ← length-map ps (shown s)) (strings-few s xs h ps w)
 
   kind-few : (k : Kind) → length xs ≡ length (ownFields (Plain k)) → tidyKind k r ≡ r → tagWritable v (Plain k) (map (mean s) (xs ++ beside (Plain k) (r .input) (r .args))) ≡ true
-      → leb (argCount k (r .args)) 16 ≡ true
+      → leb (tagCount (Plain k) (r .args)) 16 ≡ true
   kind-few (kinds.PlayerDiff c) h tidy w = refl
   kind-few kinds.Finish h tidy w = refl
   kind-few kinds.TickSkip h tidy w = refl

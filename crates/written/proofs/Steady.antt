@@ -19,12 +19,14 @@ use Rattle.packer.proofs.Parts.{raw-taken, data-taken}
 use Rattle.fields.specs.Fields.{Value, Reading, got, runsOut, refused, readFields}
 use Rattle.fields.specs.Laws.{isOut}
 use Rattle.fields.proofs.Steady.{int-had, all-steady}
-use Rattle.kinds.specs.Kinds.{withClient, kindOf, afterNumber, readKind}
+use Rattle.kinds.specs.Kinds.{kindOf, readKind}
+use Rattle.kinds.specs.steps.Kinds.{withClient, afterNumber}
 use Rattle.extensions.specs.Extensions.{Payload, shaped, allData, find, payloadAt}
 use Rattle.extensions.specs.declared.Extension.{Extension}
 use Rattle.extensions.specs.declared.Found.{Found}
 use Rattle.extensions.specs.declared.Found.the-variants.{Known, Unknown}
-use Rattle.item.specs.Records.{Rest, fields, extension, restOf, asContent, ofPayload, ofFound, afterData, afterId, readEx, readAs, readRest, afterKind, readRecord}
+use Rattle.item.specs.Records.{Rest, fields, extension, restOf, asContent, ofPayload, ofFound, readEx, readAs, readRest, readRecord}
+use Rattle.item.specs.steps.Reading.{afterData, afterId, afterKind}
 use Rattle.kinds.specs.declared.Version.{Version}
 use Rattle.kinds.specs.declared.Kind.{Kind}
 use Rattle.item.specs.declared.Tag.{Tag}

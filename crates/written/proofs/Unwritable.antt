@@ -14,9 +14,10 @@ use borrow.Author.Tests.{le-leb, leb-true}
 use Rattle.packer.specs.Parts.{shown}
 use Rattle.packer.specs.Texts.{noZero, isData}
 use Rattle.packer.specs.declared.Part.{Part}
-use Rattle.fields.specs.Fields.{Field, int, Value, num, mean}
+use Rattle.fields.specs.Fields.{Field, int, dt, str, blob, args, Value, num, onNum, onBytes, onStrings, mean}
 use Rattle.fields.specs.Views.{tenFields}
-use Rattle.fields.specs.Writing.{allNoZero, inside, allInside, partsInside}
+use Rattle.fields.specs.Writing.{every, smallDt, inside, partsInside}
+use Rattle.fields.specs.steps.Sorts.{allInside, allNoZero}
 use Rattle.fields.specs.Forms.{allWritable}
 use Rattle.fields.specs.declared.Args.{Args}
 use Rattle.shapes.specs.steps.Shapes.{idPart}
@@ -30,7 +31,7 @@ use Rattle.item.specs.declared.Item.the-variants as items
 use Rattle.item.specs.declared.Record.{Record}
 use Rattle.written.specs.Written.{payloadBytes, hasEx}
 use Rattle.written.specs.Form.{contentWritable, hasForm}
-use Rattle.written.specs.Unwritable.{someOf, isLargeDt, holdsZero, isLongData, recordValues, recordWritable}
+use Rattle.written.specs.Unwritable.{isField, someOf, recordValues, recordWritable}
 
 -- ---- tests put together in another order
 
@@ -51,11 +52,11 @@ one b = simp sorted
 message : (i d : Bool) → not (not d || false || false || false || false || not (i && true)) ≡ ((i && true) && (d && true))
 message i d = simp sorted
 
-drop : (i z : Bool) → not (not z || false || false || false || false || false || not (i && true)) ≡ ((i && true) && (z && true))
+drop : (i z : Bool) → not (not z || false || false || false || false || false || false || not (i && true)) ≡ ((i && true) && (z && true))
 drop i z = simp sorted
 
 -- few arguments make few strings
-command-few : (i j z zs : Bool) → not (not z || (not zs || false) || false || false || false || false || not (i && (j && true)))
+command-few : (i j z zs : Bool) → not (not z || false || (not zs || false) || false || false || false || false || not (i && (j && true)))
     ≡ ((i && (j && true)) && (z && (zs && true)))
 command-few i j z zs = simp sorted
 
@@ -64,19 +65,19 @@ command-many true b c = refl
 command-many false b c = refl
 
 command : (n m i j z zs : Bool) → (n ≡ true → m ≡ true)
-    → not (not z || (not zs || false) || not n || false || false || false || not (i && (j && true)))
+    → not (not z || false || (not zs || false) || not n || false || false || false || not (i && (j && true)))
     ≡ (n && ((i && (j && true)) && (z && ((m && zs) && true))))
 command true m i j z zs h = rw (h refl) (command-few i j z zs)
-command false m i j z zs h = command-many (not z || (not zs || false)) (not (i && (j && true))) false
+command false m i j z zs h = command-many (not z || false || (not zs || false)) (not (i && (j && true))) false
 
 -- extensions: version h, payload d
 ints : (h d : Bool) → not (not d || not h || false || false) ≡ (h && d)
 ints h d = simp sorted
 
-text : (i h z d : Bool) → not (not z || false || false || not d || not h || false || not (i && true)) ≡ ((i && true) && (h && ((z && true) && d)))
+text : (i h z d : Bool) → not (not z || false || false || false || not d || not h || false || not (i && true)) ≡ ((i && true) && (h && ((z && true) && d)))
 text i h z d = simp sorted
 
-id-text : (u i h z d : Bool) → not (not z || false || false || not d || not h || false || not (u && (i && true)))
+id-text : (u i h z d : Bool) → not (not z || false || false || false || not d || not h || false || not (u && (i && true)))
     ≡ ((u && (i && true)) && (h && ((z && true) && d)))
 id-text u i h z d = simp sorted
 
@@ -88,11 +89,11 @@ other u i h e d = simp sorted
 
 -- ---- ten numbers
 
-none-of : (test : Field → Value (List ℕ) → Bool) → ((v : Value (List ℕ)) → test int v ≡ false) → (n : ℕ) (ms : List (Value (List ℕ)))
-    → someOf test (replicate n int) ms ≡ false
-none-of test never zero ms = refl
-none-of test never (suc n) [] = refl
-none-of test never (suc n) (m ∷ ms) = rw (never m) (none-of test never n ms)
+none-of : (g : Field) (test : Value (List ℕ) → Bool) → isField g int ≡ false → (n : ℕ) (ms : List (Value (List ℕ)))
+    → someOf g test (replicate n int) ms ≡ false
+none-of g test never zero ms = refl
+none-of g test never (suc n) [] = refl
+none-of g test never (suc n) (m ∷ ms) = rw never (none-of g test never n ms)
 
 all-of : (n : ℕ) (ms : List (Value (List ℕ))) → allWritable (replicate n int) ms ≡ true
 all-of zero ms = refl
@@ -125,11 +126,27 @@ module _ (v : Version) (s : List ℕ) (ten : List ℤ) (xs : Args) where
   abbrev clean : Part → Bool
   clean p = noZero (shown s p)
 
-  input : (cid : ℤ) → (not (someOf isLargeDt tenFields (map (mean s) (map num ten)) || someOf holdsZero tenFields (map (mean s) (map num ten)) || false || (someOf isLongData tenFields (map (mean s) (map num ten)) || false) || false || false || not (partsInside s (map num ten))))
+  abbrev some : Field → (Value (List ℕ) → Bool) → Bool
+  some g test = someOf g test tenFields (map (mean s) (map num ten))
+
+  abbrev large : Value (List ℕ) → Bool
+  large = onNum false (λ z. not (smallDt z))
+
+  abbrev zero-in : Value (List ℕ) → Bool
+  zero-in = onBytes false (λ b. not (noZero b))
+
+  abbrev zero-in-some : Value (List ℕ) → Bool
+  zero-in-some = onStrings false (λ bs. not (every noZero bs))
+
+  abbrev long : Value (List ℕ) → Bool
+  long = onBytes false (λ b. not (isData b))
+
+  input : (cid : ℤ)
+      → (not (some dt large || (some str zero-in || some args zero-in-some) || false || (some blob long || false) || false || false || not (partsInside s (map num ten))))
       ≡ (partsInside s (map num ten) && allWritable tenFields (map (mean s) (map num ten)))
   input cid =
       let ms = map (mean s) (map num ten) in
-      rw (none-of isLargeDt (λ w. refl) 10 ms, none-of holdsZero (λ w. refl) 10 ms, none-of isLongData (λ w. refl) 10 ms, all-of 10 ms, ints-inside s ten)
+      rw (none-of dt large refl 10 ms, none-of str zero-in refl 10 ms, none-of args zero-in-some refl 10 ms, none-of blob long refl 10 ms, all-of 10 ms, ints-inside s ten)
 
   message-form : (cid : ℤ) (msg : Part) → Same (items.Message cid msg)
   unfolding recordWritable hasForm contentWritable

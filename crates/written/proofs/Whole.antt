@@ -26,7 +26,23 @@ use Rattle.extensions.specs.Extensions.{Payload, shaped, allData, payloadAt, fi
 use Rattle.extensions.specs.declared.Extension.{Extension}
 use Rattle.extensions.specs.declared.Found.{Found}
 use Rattle.extensions.specs.declared.Found.the-variants.{Known, Unknown}
-use Rattle.item.specs.Records.{Content, content, Rest, fields, extension, restOf, asContent, upTo, ofPayload, ofFound, afterData, afterId, readEx, readAs, readRest, afterKind, readRecord, payloadRemarks, foundRemarks, dataRemarks, idRemarks, exRemarks, restRemarks, remarksAfter, recordRemarks}
+use Rattle.item.specs.Records.{
+  Content,
+  content,
+  Rest,
+  fields,
+  extension,
+  restOf,
+  asContent,
+  ofPayload,
+  ofFound,
+  readEx,
+  readAs,
+  readRest,
+  readRecord,
+}
+use Rattle.item.specs.Remarks.{payloadRemarks, foundRemarks, exRemarks, restRemarks, recordRemarks}
+use Rattle.item.specs.steps.Reading.{upTo, afterData, afterId, afterKind, dataRemarks, idRemarks, remarksAfter}
 use Rattle.kinds.specs.declared.Version.{Version}
 use Rattle.kinds.specs.declared.Kind.{Kind}
 use Rattle.kinds.specs.declared.Kind.the-variants as kinds

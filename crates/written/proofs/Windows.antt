@@ -12,7 +12,8 @@ use Rattle.num.proofs.Cases.{by-bool}
 use Rattle.varint.specs.Laws.{Bytes}
 use Rattle.packer.specs.declared.Part.{Part}
 use Rattle.fields.specs.Fields.{Value, num, bytes, strings}
-use Rattle.fields.specs.Writing.{inside, allInside, valueInside, partsInside}
+use Rattle.fields.specs.Writing.{inside, valueInside, partsInside}
+use Rattle.fields.specs.steps.Sorts.{allInside}
 use Rattle.fields.proofs.Answers.{and-both, and-split}
 
 -- the bytes before a place
@@ -33,7 +34,6 @@ module _ (s t : List ℕ) (h : length s ≤ length t) where
   part-inside p i = le-leb (p .at + p .len) (length t) (omega (arith, leb-true (p .at + p .len) (length s) i))
 
   all-inside : (ps : List Part) → allInside s ps ≡ true → allInside t ps ≡ true
-  unfolding allInside
   all-inside [] i = refl
   all-inside (p ∷ ps) i =
       let o = and-split (inside s p) (allInside s ps) i in

@@ -8,9 +8,9 @@ use Rattle.packer.specs.Texts.{isData}
 use Rattle.fields.specs.Fields.{Value}
 use Rattle.fields.specs.Writing.{partsInside}
 use Rattle.fields.specs.Forms.{allWritable}
-use Rattle.kinds.specs.Kinds.{Client, nowhere, isNumber, following, leading, Beside, nothing, ten, arguments, ofExtension, kindRow}
+use Rattle.kinds.specs.Kinds.{byClient, byBeside, kindRow}
 use Rattle.extensions.specs.Extensions.{Payload, shaped, allData, payloadAt, find, isUnknown}
-use Rattle.item.specs.Records.{Content, meaning, extension, restOf}
+use Rattle.item.specs.Records.{Content, meaning, restOf}
 use Rattle.item.specs.Contents.{recordOf}
 use Rattle.kinds.specs.declared.Version.{Version}
 use Rattle.kinds.specs.declared.Kind.{Kind}
@@ -18,24 +18,11 @@ use Rattle.item.specs.declared.Tag.{Tag}
 use Rattle.item.specs.declared.Tag.the-variants.{Plain, Named, Other}
 use Rattle.item.specs.declared.Record.{Record}
 use Rattle.kinds.specs.Kinds.{hasEx}
-use Rattle.written.specs.Written.{allFields, firstBytes, payloadBytes, secondBytes, tagCount}
+use Rattle.written.specs.Written.{allFields, bytesAt, payloadBytes, tagCount}
 
--- a client that is the kind's number is none below 0
-abbrev pub clientWritable : Client → Bool
-clientWritable nowhere = true
-clientWritable (isNumber c) = nonNeg c
-clientWritable (following c) = true
-clientWritable leading = true
-
--- an extension is written by its identifier
-abbrev pub besideWritable : Beside → Bool
-besideWritable nothing = true
-besideWritable ten = true
-besideWritable arguments = true
-besideWritable ofExtension = false
-
+-- a client that is the kind's number is none below 0; an extension is written by its identifier
 abbrev pub kindWritable : Kind → Bool
-kindWritable k = besideWritable (kindRow k .beside) && clientWritable (kindRow k .client)
+kindWritable k = byBeside true true true false (kindRow k .beside) && byClient true nonNeg (λ c. true) true (kindRow k .client)
 
 abbrev pub payloadWritable : Payload → List (Value (List ℕ)) → Bool
 payloadWritable (shaped fs) vs = allWritable fs vs
@@ -44,7 +31,7 @@ payloadWritable allData vs = true
 abbrev pub tagWritable : Version → Tag → List (Value (List ℕ)) → Bool
 tagWritable v (Plain k) vs = kindWritable k && allWritable (allFields (restOf k)) vs
 tagWritable v (Named k) vs = hasEx v && (payloadWritable (payloadAt k) vs && isData (payloadBytes (payloadAt k) vs))
-tagWritable v Other vs = hasEx v && (isUnknown (find (firstBytes vs)) && isData (secondBytes vs))
+tagWritable v Other vs = hasEx v && (isUnknown (find (bytesAt 0 vs)) && isData (bytesAt 1 vs))
 
 unfoldable pub contentWritable : Version → Content (List ℕ) → Bool
 contentWritable v c = tagWritable v (c .tag) (c .values)

@@ -8,16 +8,17 @@ use mir.Syntax.{w32}
 use mir.Val.{SFits}
 use Rattle.varint.specs.Laws.{Bytes, Steady, Shorter}
 use Rattle.packer.specs.declared.Part.{Part}
-use Rattle.fields.specs.Fields.{Field, uuid, blob, Value, Reading, got, runsOut, refused}
+use Rattle.fields.specs.Fields.{Field, uuid, blob, Value, Reading, got, runsOut, withGot}
 use Rattle.fields.specs.Writing.{partsInside}
 use Rattle.fields.specs.Forms.{SortsOf}
 use Rattle.fields.specs.Laws.{isOut}
 use Rattle.item.specs.Said.{gives, more}
 use Rattle.extensions.specs.Extensions.{payloadAt}
-use Rattle.item.specs.Records.{Content, meaning, restOf, readRecord, recordCall, recordRemarks}
+use Rattle.item.specs.Records.{Content, meaning, restOf, readRecord, recordCall}
+use Rattle.item.specs.Remarks.{recordRemarks}
 use Rattle.item.specs.Contents.{recordOf, tidyRecord, ownPayload}
 use Rattle.kinds.specs.declared.Version.{Version}
-use Rattle.kinds.specs.Kinds.{Client, nowhere, isNumber, following, leading, kindRow}
+use Rattle.kinds.specs.Kinds.{byClient, kindRow}
 use Rattle.kinds.specs.declared.Kind.{Kind}
 use Rattle.item.specs.declared.Tag.{Tag}
 use Rattle.item.specs.declared.Tag.the-variants.{Plain, Named, Other}
@@ -27,9 +28,7 @@ use Rattle.written.specs.Form.{contentWritable, hasForm}
 use Rattle.written.specs.Unwritable.{recordWritable}
 
 abbrev pub meant : List ℕ → Reading (Content Part) → Reading (Content (List ℕ))
-meant s (got c next) = got (meaning s c) next
-meant s runsOut = runsOut
-meant s (refused r) = refused r
+meant s x = withGot x (λ c. got (meaning s c))
 
 -- ---- the numbers of a record have 32 bits, as in every record that a program holds
 
@@ -37,14 +36,8 @@ abbrev pub AllTyped : List Field → List (Value Part) → Type 0
 AllTyped = SortsOf (λ p. p .len)
 
 -- a client that belongs to the kind has 32 bits
-abbrev pub ClientFits : Client → Type 0
-ClientFits nowhere = Unit
-ClientFits (isNumber c) = SFits w32 c
-ClientFits (following c) = SFits w32 c
-ClientFits leading = Unit
-
 abbrev pub kindNumbers : Kind → Type 0
-kindNumbers k = ClientFits (kindRow k .client)
+kindNumbers k = byClient Unit (SFits w32) (SFits w32) Unit (kindRow k .client)
 
 abbrev pub TypedContent : Tag → List (Value Part) → Type 0
 TypedContent (Plain k) vs = kindNumbers k × AllTyped (allFields (restOf k)) vs

@@ -6,7 +6,8 @@ use Rattle.shapes.specs.steps.Shapes.{idPart}
 use Rattle.shapes.proofs.Kept.{id-kept}
 use Rattle.extensions.specs.declared.Found.{Found}
 use Rattle.extensions.specs.declared.Found.the-variants.{Known, Unknown}
-use Rattle.item.specs.Records.{ofFound, afterData, afterId, readEx}
+use Rattle.item.specs.Records.{ofFound, readEx}
+use Rattle.item.specs.steps.Reading.{afterData, afterId}
 use Rattle.extension_records.proofs.read_ex.Statement.{statement}
 use Rattle.extension_records.proofs.read_ex.Tie as tie
 

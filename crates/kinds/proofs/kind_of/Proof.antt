@@ -10,7 +10,8 @@ use mir.Facts.{toZ-ofZ}
 use Rattle.refusal.specs.declared.Refusal.the-variants.{UnknownType}
 use Rattle.num.proofs.Signs.{flag}
 use Rattle.fields.specs.Fields.{got, refused}
-use Rattle.kinds.specs.Kinds.{kindOf, extensionKind}
+use Rattle.kinds.specs.Kinds.{kindOf}
+use Rattle.kinds.specs.steps.Kinds.{extensionKind}
 use Rattle.kinds.specs.declared.Version.{Version}
 use Rattle.kinds.specs.declared.Version.the-variants.{V1, V2}
 use Rattle.kinds.specs.declared.Kind.the-variants.{PlayerDiff}

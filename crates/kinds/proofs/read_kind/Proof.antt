@@ -4,7 +4,8 @@ use borrow.Author.Needs.{needs}
 use lib.IntN.{ℤ}
 use mir.Syntax.{w32}
 use mir.Val.{toZ, ofZ}
-use Rattle.kinds.specs.Kinds.{afterNumber, kindOf, readKind}
+use Rattle.kinds.specs.Kinds.{kindOf, readKind}
+use Rattle.kinds.specs.steps.Kinds.{afterNumber}
 use Rattle.kinds.proofs.read_kind.Statement.{statement}
 use Rattle.kinds.proofs.read_kind.Tie as tie
 

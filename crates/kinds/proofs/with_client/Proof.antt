@@ -10,7 +10,7 @@ use Rattle.varint.specs.declared.Remark.{Remark}
 use Rattle.varint.specs.declared.IntRead.{IntRead}
 use Rattle.varint.specs.declared.IntRead.the-variants as ints
 use Rattle.fields.specs.Fields.{got}
-use Rattle.kinds.specs.Kinds.{withClient, playerKind}
+use Rattle.kinds.specs.steps.Kinds.{withClient, playerKind}
 use Rattle.kinds.proofs.with_client.Statement.{statement}
 use Rattle.kinds.proofs.with_client.Tie as tie
 

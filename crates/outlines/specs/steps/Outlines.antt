@@ -18,7 +18,7 @@ use Rattle.kinds.specs.declared.Version.the-variants.{V1, V2}
 use Rattle.kinds.specs.declared.Kind.{Kind}
 use Rattle.kinds.specs.declared.Kind.the-variants as kinds
 use Rattle.item.specs.Records.{Content}
-use Rattle.item.specs.Contents.{beside}
+use Rattle.item.specs.steps.Beside.{beside}
 use Rattle.written.specs.Written.{tagCount, tagBytes}
 use Rattle.written.specs.Form.{tagWritable}
 use Rattle.pieces.specs.steps.Pieces.{noFields, planOf, piecesOk, piecesBytes, piecesOf}

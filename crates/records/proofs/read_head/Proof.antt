@@ -11,7 +11,8 @@ use Rattle.varint.specs.Integers.{readInt}
 use Rattle.varint.specs.declared.IntRead.{IntRead}
 use Rattle.varint.specs.declared.IntRead.the-variants as ints
 use Rattle.packer.specs.declared.Part.{Part}
-use Rattle.fields.specs.Fields.{int, mask, str, num, Value, Reading, got, runsOut, intField, maskField, push, andThen, readFields}
+use Rattle.fields.specs.Fields.{int, mask, str, num, Value, Reading, got, runsOut, readFields}
+use Rattle.fields.specs.steps.Sorts.{intField, maskField, push, andThen}
 use Rattle.shapes.specs.steps.Shapes.{pairIs}
 use Rattle.shapes.specs.declared.PairRead.{PairRead}
 use Rattle.shapes.specs.declared.PairRead.the-variants as pairs

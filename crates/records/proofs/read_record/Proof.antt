@@ -1,7 +1,8 @@
 -- `records::read_record` meets its contract. Assumes nothing.
 use mathlib.Core.Path.{_≡_, refl, sym, _∙_, ap}
-use Rattle.item.specs.Records.{afterKind, readRecord}
-use Rattle.kinds.specs.Views.{kindIs}
+use Rattle.item.specs.Records.{readRecord}
+use Rattle.item.specs.steps.Reading.{afterKind}
+use Rattle.kinds.specs.steps.Kinds.{kindIs}
 use borrow.Author.Needs.{needs}
 use Rattle.records.proofs.read_record.Statement.{statement}
 use Rattle.records.proofs.read_record.Tie as tie

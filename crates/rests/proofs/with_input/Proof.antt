@@ -9,7 +9,7 @@ use mir.Syntax.{w32}
 use mir.Val.{toZ, ofZ}
 use Rattle.fields.specs.declared.InputAnswer.the-variants as answers
 use Rattle.item.specs.Records.{readRest}
-use Rattle.kinds.specs.Kinds.{inputKind}
+use Rattle.kinds.specs.steps.Kinds.{inputKind}
 use Rattle.state.specs.Slim.{slimStep}
 use Rattle.state.specs.steps.Inside.{memory}
 use Rattle.state.specs.steps.Parts.{withRest}

@@ -1,12 +1,14 @@
 -- `shapes::read_rest` meets its contract: each shape by its fields in their order. Assumes nothing.
 use mathlib.Core.Path.{_≡_, refl, sym, _∙_, ap}
 use mathlib.Core.Bool.{false≢true}
+use mathlib.Core.List.{[], _∷_}
 use borrow.Author.Needs.{needs}
 use mir.Syntax.{w32}
 use mir.Val.{toZ, ofZ}
 use Rattle.varint.specs.Integers.{readInt}
 use Rattle.packer.specs.Parts.{readString, readData}
-use Rattle.fields.specs.Fields.{num, bytes, push}
+use Rattle.fields.specs.Fields.{str, num, bytes, readFields}
+use Rattle.fields.specs.steps.Sorts.{push}
 use Rattle.shapes.specs.steps.Shapes.{idPart, isNothing}
 use Rattle.shapes.specs.declared.Shape.the-variants.{IntInt, IntStr, IntIntStr, IntUuidStr, IntUuidIntStr, IntData}
 use Rattle.shapes.proofs.Kept.{id-kept, by-int, by-part}
@@ -38,22 +40,22 @@ returns-5 c =
     let a = c .before .before .before .before .args in
     let x : toZ w32 (ofZ w32 (a .first)) ≡ a .first = search needs in
     rw (c .before .enum-told3 .given .1, c .read-second .ensures, x)
-    (by-int IntInt (push (num (a .first))) refl (readInt (a .s .now) (a .at)) _ _ (λ z n. record { values = refl; blank = refl }))
+    (by-int IntInt (push (num (a .first))) refl (readInt (a .s .now) (a .at)) _ (readFields [] (a .s .now)) (λ z n. record { values = refl; blank = refl }))
 
 returns-6 : tie.Need-returns-6
 returns-6 c =
     let a = c .before .before .before .before .before .args in
     let x : toZ w32 (ofZ w32 (a .first)) ≡ a .first = search needs in
     rw (c .before .before .enum-told4 .given .1, c .with-text .ensures, x, c .before .read-string .ensures)
-    (by-part IntStr (push (num (a .first))) refl (readString (a .s .now) (a .at)) _ _ (λ t n. record { values = refl; blank = refl }))
+    (by-part IntStr (push (num (a .first))) refl (readString (a .s .now) (a .at)) _ (readFields [] (a .s .now)) (λ t n. record { values = refl; blank = refl }))
 
 returns-7 : tie.Need-returns-7
 returns-7 c =
     let a = c .before .before .before .before .args in
     let x : toZ w32 (ofZ w32 (a .first)) ≡ a .first = search needs in
     rw (c .before .enum-told5 .given .1, c .read-second2 .ensures, x)
-    (by-int IntIntStr (push (num (a .first))) refl (readInt (a .s .now) (a .at)) _ _
-    (λ z n. by-part IntIntStr (λ y. push (num (a .first)) (push (num z) y)) refl (readString (a .s .now) n) _ _
+    (by-int IntIntStr (push (num (a .first))) refl (readInt (a .s .now) (a .at)) _ (readFields (str ∷ []) (a .s .now))
+    (λ z n. by-part IntIntStr (λ y. push (num (a .first)) (push (num z) y)) refl (readString (a .s .now) n) _ (readFields [] (a .s .now))
     (λ t m. record { values = refl; blank = refl })))
 
 returns-8 : tie.Need-returns-8
@@ -64,7 +66,7 @@ returns-8 c =
     let x : toZ w32 (ofZ w32 (a .first)) ≡ a .first = search needs in
     let id = id-kept _ _ (r .read-raw .ensures) (g .next .given .1) in
     rw (r .before .enum-told6 .given .1, c .with-text2 .ensures, x, c .before .read-string2 .ensures, id)
-    (by-part IntUuidStr (λ y. push (num (a .first)) (push (bytes (idPart (a .at))) y)) refl (readString (a .s .now) _) _ _
+    (by-part IntUuidStr (λ y. push (num (a .first)) (push (bytes (idPart (a .at))) y)) refl (readString (a .s .now) _) _ (readFields [] (a .s .now))
     (λ t m. record { values = refl; blank = refl }))
 
 returns-9 : tie.Need-returns-9
@@ -75,8 +77,8 @@ returns-9 c =
     let x : toZ w32 (ofZ w32 (a .first)) ≡ a .first = search needs in
     let id = id-kept _ _ (r .read-raw2 .ensures) (g .next2 .given .1) in
     rw (r .before .enum-told8 .given .1, c .read-second3 .ensures, x, id)
-    (by-int IntUuidIntStr (λ y. push (num (a .first)) (push (bytes (idPart (a .at))) y)) refl (readInt (a .s .now) _) _ _
-    (λ z n. by-part IntUuidIntStr (λ y. push (num (a .first)) (push (bytes (idPart (a .at))) (push (num z) y))) refl (readString (a .s .now) n) _ _
+    (by-int IntUuidIntStr (λ y. push (num (a .first)) (push (bytes (idPart (a .at))) y)) refl (readInt (a .s .now) _) _ (readFields (str ∷ []) (a .s .now))
+    (λ z n. by-part IntUuidIntStr (λ y. push (num (a .first)) (push (bytes (idPart (a .at))) (push (num z) y))) refl (readString (a .s .now) n) _ (readFields [] (a .s .now))
     (λ t m. record { values = refl; blank = refl })))
 
 returns-10 : tie.Need-returns-10
@@ -84,7 +86,7 @@ returns-10 c =
     let a = c .before .before .before .before .before .args in
     let x : toZ w32 (ofZ w32 (a .first)) ≡ a .first = search needs in
     rw (c .before .before .enum-told10 .given .1, c .with-text3 .ensures, x, c .before .read-data .ensures)
-    (by-part IntData (push (num (a .first))) refl (readData (a .s .now) (a .at)) _ _ (λ t n. record { values = refl; blank = refl }))
+    (by-part IntData (push (num (a .first))) refl (readData (a .s .now) (a .at)) _ (readFields [] (a .s .now)) (λ t n. record { values = refl; blank = refl }))
 
 pub read-rest-spec : {M : Type 1} → statement M
 read-rest-spec =

@@ -14,8 +14,8 @@ use Rattle.packer.specs.Parts.{part, readString}
 use Rattle.packer.specs.declared.Part.{Part}
 use Rattle.packer.specs.declared.PartRead.{PartRead}
 use Rattle.packer.specs.declared.PartRead.the-variants as parts
-use Rattle.fields.specs.Fields.{Field, int, dt, mask, str, uuid, blob, args, Value, num, bytes, Reading, got, runsOut, push, readFields}
-use Rattle.fields.specs.Views.{noPart}
+use Rattle.fields.specs.Fields.{Field, int, dt, mask, str, uuid, blob, args, Value, num, bytes, Reading, got, runsOut, readFields}
+use Rattle.fields.specs.steps.Sorts.{push, noPart}
 use Rattle.shapes.specs.declared.Shape.{Shape}
 use Rattle.shapes.specs.declared.Shape.the-variants.{Nothing, Int, IntInt, IntStr, IntIntStr, IntUuidStr, IntUuidIntStr, IntData}
 use Rattle.shapes.specs.declared.Fields.{Fields}
