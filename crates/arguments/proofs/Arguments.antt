@@ -24,7 +24,7 @@ use Rattle.item.specs.declared.Tag.{Tag}
 use Rattle.item.specs.declared.Tag.the-variants.{Plain, Named, Other}
 use Rattle.refusal.specs.declared.Refusal.{Refusal}
 use Rattle.records.specs.steps.Views.{answerIs, tidyAnswer, RestRead}
-use Rattle.item.specs.Contents.{ownContent}
+use Rattle.item.specs.Own.{ownContent}
 use Rattle.records.specs.declared.RecordAnswer.{RecordAnswer}
 use Rattle.records.specs.declared.RecordAnswer.the-variants as rests
 use Rattle.records.specs.declared.RecordRead.{RecordRead}
@@ -32,7 +32,7 @@ use Rattle.records.proofs.Beside.{own-record}
 use Rattle.state.specs.Sorts.{tagSort}
 use Rattle.state.specs.State.{Memory}
 use Rattle.state.specs.Reading.{Event, other, nextKind, openCall}
-use Rattle.state.specs.Views.{saidIs}
+use Rattle.state.specs.Slim.{saidIs}
 use Rattle.state.specs.Slim.{slimSaid}
 use Rattle.state.specs.declared.Scalars.{Scalars}
 use Rattle.state.specs.declared.Event.the-variants as events

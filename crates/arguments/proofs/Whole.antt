@@ -18,13 +18,14 @@ use Rattle.extensions.specs.declared.Found.{Found}
 use Rattle.extensions.specs.declared.Found.the-variants.{Known, Unknown}
 use Rattle.item.specs.Records.{Content, content, asContent, ofPayload, ofFound, readEx, readRest}
 use Rattle.item.specs.steps.Reading.{upTo, afterData, afterId}
-use Rattle.item.specs.Contents.{ownPayload, ownFields, withBeside, noArgs}
+use Rattle.item.specs.Contents.{ownPayload, withBeside, noArgs}
+use Rattle.item.specs.Own.{ownFields}
 use Rattle.item.specs.steps.Beside.{beside}
 use Rattle.kinds.specs.declared.Kind.{Kind}
 use Rattle.kinds.specs.declared.Kind.the-variants as kinds
 use Rattle.item.specs.declared.Tag.{Tag}
 use Rattle.item.specs.declared.Tag.the-variants.{Plain, Named, Other}
-use Rattle.item.specs.Contents.{ownContent}
+use Rattle.item.specs.Own.{ownContent}
 use Rattle.rests.specs.steps.Kinds.{isOther}
 use Rattle.rests.proofs.Others.{no-other, by-other}
 use Rattle.kinds.specs.steps.Kinds.{isCommand}

@@ -21,21 +21,15 @@ onRecord (events.PlayerOld c px py) x f = x
 onRecord (events.Input c former) x f = x
 onRecord (events.Record i) x f = f i
 
-abbrev pub eventWith : code.Event → Args → Event
-eventWith e xs = onRecord e (eventIs e) (λ i. other (withBeside (itemOf i) [] xs))
-
 abbrev pub saidWith : Answer → Args → Said Event
-saidWith (answers.Event e used) xs = gives (eventWith e xs) used
+saidWith (answers.Event e used) xs = gives (onRecord e (eventIs e) (λ i. other (withBeside (itemOf i) [] xs))) used
 saidWith answers.More xs = more
 saidWith (answers.Finish used) xs = finish used
 saidWith (answers.Refused r) xs = refusing r
 
 -- arguments stand beside a command alone, as many parts as the count says, the others empty; elsewhere there are none
-abbrev pub eventArgs : code.Event → Args → Args
-eventArgs e xs = onRecord e noArgs (λ i. argsIn (itemOf i .tag) xs)
-
 abbrev pub answerArgs : Answer → Args → Args
-answerArgs (answers.Event e used) xs = eventArgs e xs
+answerArgs (answers.Event e used) xs = onRecord e noArgs (λ i. argsIn (itemOf i .tag) xs)
 answerArgs answers.More xs = noArgs
 answerArgs (answers.Finish used) xs = noArgs
 answerArgs (answers.Refused r) xs = noArgs

@@ -54,12 +54,9 @@ ofClient (negsuc c) f = refused NotLast
 -- ---- an event of a client, taken off the entries in tick t; only clients below 128 can be present or hold inputs
 
 -- the client is at x, y, and its entry was another: none (PlayerNew), or at the old position (PlayerChange)
-abbrev pub presentAt : Entries → ℕ → ℤ → ℤ → Bool
-presentAt e c x y = present e c && (sameInt (xOf e c) x && sameInt (yOf e c) y)
-
 abbrev pub unPresent : ℤ → Entries → ℤ → ℤ → ℤ → ℕ → ℤ → ℤ → Back
 unPresent t e z x y mark old-x old-y =
-    ofClient z (λ c. onlyIf (presentAt e c x y) (board (In t) (withPlayer e c mark old-x old-y)))
+    ofClient z (λ c. onlyIf (present e c && (sameInt (xOf e c) x && sameInt (yOf e c) y)) (board (In t) (withPlayer e c mark old-x old-y)))
 
 abbrev pub unOld : ℤ → Entries → ℤ → ℤ → ℤ → Back
 unOld t e z x y = ofClient z (λ c. onlyIf (ltb c 128 && not (present e c)) (board (In t) (withPlayer e c 1 x y)))

@@ -13,7 +13,8 @@ use Rattle.item.specs.Records.{Content, restOf, readRest}
 use Rattle.kinds.specs.declared.Version.{Version}
 use Rattle.kinds.specs.declared.Kind.{Kind}
 use Rattle.state.specs.State.{Memory}
-use Rattle.state.specs.Reading.{Event, Step, nextKind, goodCall, memoryOf, readCall, readerAfter}
+use Rattle.state.specs.Reading.{Event, Step, nextKind, goodCall, readCall, readerAfter}
+use Rattle.state.specs.steps.Parts.{memoryOf}
 use Rattle.state.specs.Laws.{SaidLeaves, usedIn}
 use Rattle.state.specs.Acts.{HadKind, Had, WhyPlain, WhyPlayer, WhyInput, Act, ReadAct}
 use Rattle.state.specs.Acts as act

@@ -2,7 +2,7 @@
 // (count_many).
 ghost use Prim.Native.Nat.{_+_, min};
 ghost use mathlib.Core.Path.{_≡_};
-ghost use Rattle.state.specs.Views.{saidIs};
+ghost use Rattle.state.specs.Slim.{saidIs};
 ghost use Rattle.count.specs.Count.{versionIf, usedBy};
 use kinds::Version;
 use state::Answer;

@@ -1,7 +1,7 @@
 -- What a call by value says of the bytes that its event used. Assumes nothing.
 use mathlib.Core.Path.{_≡_, refl, ap, _∙_}
 use Rattle.state.specs.Reading.{Step}
-use Rattle.state.specs.Views.{saidIs}
+use Rattle.state.specs.Slim.{saidIs}
 use Rattle.state.specs.declared.Answer.{Answer}
 use Rattle.state.specs.declared.Answer.the-variants as answers
 use Rattle.fields.specs.declared.Args.{Args}

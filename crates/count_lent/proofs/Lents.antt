@@ -6,7 +6,7 @@ use mathlib.Core.List.{List}
 use Rattle.item.specs.Said.{Said, gives, more, finish, refuses}
 use Rattle.state.specs.State.{Memory, readerWith}
 use Rattle.state.specs.Reading.{Event, Step, callOn, readCall, readerAfter}
-use Rattle.state.specs.Views.{saidIs}
+use Rattle.state.specs.Slim.{saidIs}
 use Rattle.state.specs.Slim.{slimSaid, slimStep}
 use Rattle.state.specs.steps.Inside.{done}
 use Rattle.state.specs.declared.Scalars.{Scalars}

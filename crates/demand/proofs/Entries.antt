@@ -13,10 +13,14 @@ use Rattle.state.specs.State.{sameInt, present, xOf, yOf, withPlayer, moved, ho
 use Rattle.state.specs.steps.Parts.{goodPlayer, goodInput}
 use Rattle.state.specs.Laws.{Sizes}
 use Rattle.state.specs.declared.Entries.{Entries}
-use Rattle.back.specs.Back.{sameAll, presentAt, formerInput}
+use Rattle.back.specs.Back.{sameAll, formerInput}
 use Rattle.demand.specs.Events.{players}
 use Rattle.demand.proofs.Tests.{and-true, same-refl, same-true, same-all-refl, every-at, blank}
 use Rattle.demand.proofs.Ten.{ten-zeros, ten-put, put-back}
+
+-- a client present at a position
+abbrev presentAt : Entries → ℕ → ℤ → ℤ → Bool
+presentAt e c x y = present e c && (sameInt (xOf e c) x && sameInt (yOf e c) y)
 
 module _ (e : Entries) (z : Sizes e) (c : ℕ) (h : c < 128) where
   pub mark-set : (m : ℕ) → getD (set (e .marks) c m) c 0 ≡ m

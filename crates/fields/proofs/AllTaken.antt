@@ -10,7 +10,8 @@ use Rattle.packer.specs.declared.Part.{Part}
 use Rattle.fields.specs.Fields.{Field, Value, Reading, got, runsOut, refused, readField, readFields, mean}
 use Rattle.fields.specs.steps.Sorts.{push, andThen}
 use Rattle.fields.specs.Remarks.{fieldRemark, remarks}
-use Rattle.fields.specs.Writing.{writeField, writeFields, valueInside, partsInside}
+use Rattle.fields.specs.Writing.{writeField, writeFields, partsInside}
+use Rattle.fields.specs.steps.Sorts.{valueInside}
 use Rattle.fields.specs.Forms.{AllSorted, writable, allWritable}
 use Rattle.fields.specs.Laws.{isOut}
 use Rattle.fields.proofs.Steady.{all-steady}

@@ -48,7 +48,8 @@ use Rattle.fields.specs.Fields.{
 }
 use Rattle.fields.specs.steps.Sorts.{intField, dtField, maskField, partField, asStrings, argsField, allNoZero}
 use Rattle.fields.specs.Remarks.{remarkIn, fieldRemark}
-use Rattle.fields.specs.Writing.{writeField, stringsBytes, valueInside}
+use Rattle.fields.specs.Writing.{writeField, stringsBytes}
+use Rattle.fields.specs.steps.Sorts.{valueInside}
 use Rattle.fields.specs.Forms.{Sorted, writable}
 use Rattle.fields.proofs.Answers.{not-out, not-refused, same-got, and-both}
 use Rattle.fields.proofs.Strings.{args-had, string-inside}

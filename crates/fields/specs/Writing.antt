@@ -49,8 +49,5 @@ writeFields (f ∷ fs) (v ∷ vs) = writeField f v ++ writeFields fs vs
 abbrev pub inside : List ℕ → Part → Bool
 inside s p = leb (p .at + p .len) (length s)
 
-abbrev pub valueInside : List ℕ → Value Part → Bool
-valueInside s v = onValue (λ z. true) (inside s) (every (inside s)) v
-
 abbrev pub partsInside : List ℕ → List (Value Part) → Bool
-partsInside s vs = every (valueInside s) vs
+partsInside s vs = every (onValue (λ z. true) (inside s) (every (inside s))) vs

@@ -12,7 +12,9 @@ use Rattle.fields.specs.steps.Sorts.{noPart}
 use Rattle.shapes.specs.steps.Shapes.{valuesIn}
 use Rattle.shapes.specs.declared.Fields.{Fields}
 use Rattle.item.specs.Records.{Content, content}
-use Rattle.item.specs.Contents.{itemOf, firstNumber, tagCid, cidOf, ownFields}
+use Rattle.item.specs.Contents.{itemOf, tagCid, cidOf}
+use Rattle.item.specs.steps.Beside.{firstNumber}
+use Rattle.item.specs.Own.{ownFields}
 use Rattle.item.specs.Numbers.{tagNumber}
 use Rattle.item.specs.steps.Taken.{takenOf, TakenApart}
 use Rattle.kinds.specs.declared.Kind.the-variants as kinds

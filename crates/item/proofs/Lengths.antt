@@ -2,7 +2,8 @@
 use mathlib.Core.Path.{_≡_, refl}
 use lib.ListN.{length}
 use Rattle.extensions.specs.Extensions.{extensionRow, payloadAt}
-use Rattle.item.specs.Contents.{itemOf, ownFields}
+use Rattle.item.specs.Contents.{itemOf}
+use Rattle.item.specs.Own.{ownFields}
 use Rattle.item.specs.declared.Item.{Item}
 use Rattle.item.specs.declared.Item.the-variants as records
 

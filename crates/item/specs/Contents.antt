@@ -1,15 +1,15 @@
 -- The records that the code hands out: for each, which it is and the values that stand in it. docs/FORMAT.md, "Records" and rule 5.
 use mathlib.Core.Bool.{cond}
 use mathlib.Core.List.{List, [], _∷_, _++_, map}
-use lib.ListN.{length, getD, take}
+use lib.ListN.{getD, take}
 use lib.IntN.{ℤ, pos}
 use Rattle.packer.specs.declared.Part.{Part}
-use Rattle.fields.specs.Fields.{Field, uuid, blob, Value, num, bytes, strings, onNum}
+use Rattle.fields.specs.Fields.{Field, blob, Value, num, bytes, strings, onNum}
 use Rattle.fields.specs.Views.{zeros, argsWith}
 use Rattle.fields.specs.declared.Args.{Args}
 use Rattle.shapes.specs.steps.Shapes.{idPart}
 use Rattle.kinds.specs.Kinds.{Beside, ofExtension, byBeside, kindRow, kindCid}
-use Rattle.extensions.specs.Extensions.{Payload, shaped, allData, payloadAt, hasClient}
+use Rattle.extensions.specs.Extensions.{Payload, shaped, allData, hasClient}
 use Rattle.extensions.specs.declared.Extension.{Extension}
 use Rattle.extensions.specs.declared.Extension.the-variants as extensions
 use Rattle.item.specs.Records.{Content, content}
@@ -66,28 +66,17 @@ byTag f g x Other = x
 
 -- ---- the client of a record, or none
 
-abbrev pub firstNumber : List (Value Part) → ℤ
-firstNumber vs = onNum (pos 0) (λ z. z) (getD vs 0 (num (pos 0)))
-
 abbrev pub tagCid : Tag → ℤ → Cid
 tagCid t z = byTag (λ k. kindCid k z) (λ e. cond (hasClient e) (Of z) NoCid) NoCid t
 
--- the largest client rises to it (rule 5)
+-- by its first number; the largest client rises to it (rule 5)
 abbrev pub cidOf : Content Part → Cid
-cidOf c = tagCid (c .tag) (firstNumber (c .values))
+cidOf c = tagCid (c .tag) (onNum (pos 0) (λ z. z) (getD (c .values) 0 (num (pos 0))))
 
--- ---- the fields whose values stand in a record
-
+-- the fields of an extension
 abbrev pub ownPayload : Payload → List Field
 ownPayload (shaped fs) = fs
 ownPayload allData = blob ∷ []
-
-abbrev pub ownFields : Tag → List Field
-ownFields t = byTag (λ k. kindRow k .own) (λ e. ownPayload (payloadAt e)) (uuid ∷ blob ∷ []) t
-
--- a record without what stands beside it
-abbrev pub ownContent : Content Part → Content Part
-ownContent c = content (c .tag) (take (length (ownFields (c .tag))) (c .values))
 
 -- ---- with what stands beside the enum
 

@@ -51,11 +51,8 @@ pub data Rest : Type 0 where
   fields : List Field → List Field → Rest
   extension : Rest
 
-abbrev pub restBy : List Field → Beside → Rest
-restBy fs b = byBeside (fields fs []) (fields fs tenFields) (fields fs (args ∷ [])) extension b
-
 abbrev pub restOf : Kind → Rest
-restOf k = restBy (kindRow k .own) (kindRow k .beside)
+restOf k = let fs = kindRow k .own in byBeside (fields fs []) (fields fs tenFields) (fields fs (args ∷ [])) extension (kindRow k .beside)
 
 abbrev pub asContent : Tag → Reading (List (Value Part)) → Reading (Content Part)
 asContent t x = withGot x (λ vs. got (content t vs))

@@ -39,7 +39,7 @@ use denote.Triple.Clauses.{Clauses, Ended, closing}
 use denote.Triple.Walked.{Stays, AllGo, Walks, walk-meets}
 use Rattle.state.specs.State.{Memory}
 use Rattle.state.specs.Reading.{stepOf, callOn}
-use Rattle.state.specs.Views.{saidIs}
+use Rattle.state.specs.Slim.{saidIs}
 use Rattle.state.specs.Slim.{slimStep}
 use Rattle.state.specs.steps.Inside.{memory}
 use Rattle.state.specs.declared.Scalars.{Scalars}

@@ -2,7 +2,7 @@
 // tested for first, as in every reading call.
 ghost use mathlib.Core.Path.{_≡_};
 ghost use Rattle.state.specs.Reading.{stepOf, callOn};
-ghost use Rattle.state.specs.Views.{saidIs};
+ghost use Rattle.state.specs.Slim.{saidIs};
 ghost use Rattle.state.specs.Slim.{slimStep};
 ghost use Rattle.state.specs.steps.Inside.{memory, done};
 use refusal::Refusal;

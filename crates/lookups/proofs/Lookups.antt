@@ -12,7 +12,8 @@ use Rattle.state.specs.State.{present, holds, xOf, yOf, tenOf}
 use Rattle.state.specs.declared.Entries.{Entries}
 use Rattle.state.proofs.Numbers.{picks-first, picks-second, client-is}
 use Rattle.state.proofs.Marks.{here, away, far}
-use Rattle.lookups.specs.Lookups.{posOf, inputAnswer, inputFor}
+use Rattle.lookups.specs.Lookups.{posOf, inputFor}
+use Rattle.lookups.specs.steps.Answers.{inputAnswer}
 use Rattle.lookups.specs.declared.Pos.the-variants as places
 
 pub pos-far : (e : Entries) (z : ℤ) (b : ℕ) → b ≡ ofZ w32 z → 128 ≤ b → places.NoPos ≡ posOf e z

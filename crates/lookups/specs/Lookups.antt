@@ -13,10 +13,7 @@ abbrev pub posOf : Entries → ℤ → Pos
 posOf e (pos c) = cond (present e c) (places.At (xOf e c) (yOf e c)) places.NoPos
 posOf e (negsuc c) = places.NoPos
 
-abbrev pub inputAnswer : Bool → List ℤ → InputOf
-inputAnswer there ten = record { there = there; input = ten }
-
 -- ten zeros where there is none
 abbrev pub inputFor : Entries → ℤ → InputOf
-inputFor e (pos c) = cond (holds e c) (inputAnswer true (tenOf (e .inputs) c)) (inputAnswer false (zeros 10))
-inputFor e (negsuc c) = inputAnswer false (zeros 10)
+inputFor e (pos c) = cond (holds e c) (record { there = true; input = tenOf (e .inputs) c }) (record { there = false; input = zeros 10 })
+inputFor e (negsuc c) = record { there = false; input = zeros 10 }

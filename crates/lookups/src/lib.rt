@@ -2,7 +2,8 @@
 ghost use mathlib.Core.Path.{_≡_};
 ghost use mathlib.Core.Bool.{false};
 ghost use Rattle.fields.specs.Views.{zeros};
-ghost use Rattle.lookups.specs.Lookups.{posOf, inputAnswer, inputFor};
+ghost use Rattle.lookups.specs.Lookups.{posOf, inputFor};
+ghost use Rattle.lookups.specs.steps.Answers.{inputAnswer};
 use state::Entries;
 
 // A position, or none.

@@ -10,7 +10,8 @@ use Rattle.refusal.specs.declared.Refusal.{Refusal}
 use Rattle.refusal.specs.declared.Refusal.the-variants.{BadState, Closed}
 use Rattle.item.specs.Said.{refusing}
 use Rattle.state.specs.State.{goodReader}
-use Rattle.state.specs.Reading.{Step, stepOf, openCall, goodCall, memoryOf, readCall, readerAfter}
+use Rattle.state.specs.Reading.{Step, stepOf, openCall, goodCall, readCall, readerAfter}
+use Rattle.state.specs.steps.Parts.{memoryOf}
 use Rattle.state.specs.declared.Reader.{Reader}
 use Rattle.state.proofs.Numbers.{picks-first, picks-second}
 use Rattle.calls.specs.Calls.{isPending, seenBy}

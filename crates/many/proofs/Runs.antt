@@ -13,7 +13,8 @@ use Rattle.num.specs.Wrap.{wrap32}
 use Rattle.item.specs.Said.{Said, more, finish, refusing}
 use Rattle.state.specs.State.{Memory, readerWith, goodReader}
 use Rattle.state.specs.Reading.{Event, Step, goodCall, readCall, readerAfter}
-use Rattle.state.specs.Views.{eventIs, saidIs}
+use Rattle.state.specs.Views.{eventIs}
+use Rattle.state.specs.Slim.{saidIs}
 use Rattle.state.specs.Slim.{slimSaid, slimStep}
 use Rattle.state.specs.steps.Inside.{done}
 use Rattle.state.specs.Laws.{usedIn, Sound}

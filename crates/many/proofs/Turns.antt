@@ -10,7 +10,8 @@ use lib.IntN.{ℤ}
 use Rattle.refusal.specs.declared.Refusal.{Refusal}
 use Rattle.state.specs.State.{Memory}
 use Rattle.state.specs.Reading.{goodCall}
-use Rattle.state.specs.Views.{eventIs, saidIs}
+use Rattle.state.specs.Views.{eventIs}
+use Rattle.state.specs.Slim.{saidIs}
 use Rattle.state.specs.Slim.{slimStep}
 use Rattle.state.specs.steps.Inside.{done}
 use Rattle.state.specs.Laws.{usedIn, Sound}

@@ -11,15 +11,12 @@ use Rattle.queries.specs.declared.WantedAnswer.{WantedAnswer}
 use Rattle.queries.specs.declared.WantedAnswer.the-variants.{Is, Refused}
 use Rattle.queries.specs.declared.WantedReader.{WantedReader}
 
+-- of versions 1 and 2; another is refusal 2
 abbrev pub emptyOf : Said Version → Said Reader
 emptyOf (gives v used) = gives (emptyReader v) used
 emptyOf more = more
 emptyOf (finish used) = finish used
 emptyOf (refuses n vs) = refuses n vs
-
--- of versions 1 and 2; another is refusal 2
-abbrev pub emptyIn : ℤ → Said Reader
-emptyIn z = emptyOf (versionOf z)
 
 abbrev pub wantedSaid : WantedAnswer → Reader → Said Reader
 wantedSaid Is r = gives r 0
@@ -31,5 +28,5 @@ spare Is r = r
 spare (Refused why) r = emptyReader V1
 
 pub record WantedIs (z : ℤ) (r : WantedReader) : Type 0 where
-  pub said : wantedSaid (r .answer) (r .reader) ≡ emptyIn z
+  pub said : wantedSaid (r .answer) (r .reader) ≡ emptyOf (versionOf z)
   pub beside : spare (r .answer) (r .reader) ≡ r .reader

@@ -6,7 +6,8 @@ use mathlib.Core.List.{List}
 use Rattle.refusal.specs.declared.Refusal.the-variants.{BadState, Closed}
 use Rattle.item.specs.Said.{refusing}
 use Rattle.state.specs.State.{goodReader}
-use Rattle.state.specs.Reading.{Step, stepOf, openCall, goodCall, memoryOf, readCall}
+use Rattle.state.specs.Reading.{Step, stepOf, openCall, goodCall, readCall}
+use Rattle.state.specs.steps.Parts.{memoryOf}
 use Rattle.state.specs.declared.Reader.{Reader}
 use Rattle.reader.specs.Answers.{Tells}
 use Rattle.reader.specs.declared.ReadAnswer.{ReadAnswer}

@@ -6,7 +6,7 @@ use mathlib.Core.List.{List}
 use Rattle.state.specs.Reading.{Step, readCall, readerAfter}
 use Rattle.state.specs.declared.Reader.{Reader}
 use Rattle.reader.specs.declared.ReadAnswer.{ReadAnswer}
-pub use Rattle.arguments.specs.Arguments.{eventWith, saidWith, eventArgs, answerArgs}
+pub use Rattle.arguments.specs.Arguments.{saidWith, answerArgs}
 
 -- what a call says, the reader that it leaves, the ten numbers and the former ten, and no arguments but a command's
 pub record Tells (t : Step) (r : ReadAnswer) : Type 0 where

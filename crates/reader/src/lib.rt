@@ -2,7 +2,8 @@
 ghost use mathlib.Core.Path.{_≡_};
 ghost use Rattle.item.specs.Said.{refusing};
 ghost use Rattle.state.specs.State.{entriesWith};
-ghost use Rattle.state.specs.Reading.{stepOf, openCall, memoryOf};
+ghost use Rattle.state.specs.Reading.{stepOf, openCall};
+ghost use Rattle.state.specs.steps.Parts.{memoryOf};
 ghost use Rattle.reader.specs.Answers.{Tells, ReadIs};
 ghost use Rattle.reader.specs.steps.Inside.{readAnswer};
 use fields::Args;

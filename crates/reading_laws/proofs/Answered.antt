@@ -19,7 +19,8 @@ use Rattle.state.specs.declared.Event as code
 use Rattle.state.specs.declared.Event.the-variants as events
 use Rattle.state.specs.declared.Answer.{Answer}
 use Rattle.state.specs.declared.Answer.the-variants as answers
-use Rattle.reader.specs.Answers.{eventWith, saidWith, eventArgs, answerArgs}
+use Rattle.arguments.specs.steps.Inside.{eventWith, eventArgs}
+use Rattle.reader.specs.Answers.{saidWith, answerArgs}
 
 -- ---- the answer
 

@@ -10,7 +10,8 @@ use Rattle.fields.specs.declared.Args.{Args}
 use Rattle.item.specs.Said.{Said, gives, more, finish, refuses, refusing}
 use Rattle.views.proofs.Refusals.{same-refusal}
 use Rattle.state.specs.State.{Memory, goodScalars, goodEntries, goodReader}
-use Rattle.state.specs.Reading.{Event, Step, stepOf, goodCall, memoryOf, readCall, readerAfter}
+use Rattle.state.specs.Reading.{Event, Step, stepOf, goodCall, readCall, readerAfter}
+use Rattle.state.specs.steps.Parts.{memoryOf}
 use Rattle.state.specs.Acts.{BytesRunOut, Act, ReadAct}
 use Rattle.state.specs.Acts as act
 use Rattle.state.specs.declared.Entries.{Entries}
@@ -160,4 +161,4 @@ read-determined r w last a b ha hb =
 
 pub back-without-arguments : BackWithoutArguments
 unfolding stepBack
-back-without-arguments b e ten former = slim-same (λ (d : Event). stepBack b d ten former) (λ r. refl) e
+back-without-arguments b e ten former = sym (slim-same (λ (d : Event). stepBack b d ten former) (λ r. refl) e)

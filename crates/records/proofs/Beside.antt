@@ -18,7 +18,8 @@ use Rattle.extensions.specs.declared.Found.{Found}
 use Rattle.extensions.specs.declared.Found.the-variants.{Known, Unknown}
 use Rattle.item.specs.Records.{Content, content, asContent, ofPayload, ofFound, readEx, readRest}
 use Rattle.item.specs.steps.Reading.{upTo, afterData, afterId}
-use Rattle.item.specs.Contents.{itemOf, ownFields, noArgs, recordWith, recordOf}
+use Rattle.item.specs.Contents.{itemOf, noArgs, recordWith, recordOf}
+use Rattle.item.specs.Own.{ownFields}
 use Rattle.item.specs.steps.Beside.{beside, tidyTag}
 use Rattle.kinds.specs.declared.Kind.{Kind}
 use Rattle.kinds.specs.declared.Kind.the-variants as kinds
@@ -28,7 +29,7 @@ use Rattle.item.specs.declared.Item.{Item}
 use Rattle.item.specs.declared.Record.{Record}
 use Rattle.item.proofs.Lengths.{lengths}
 use Rattle.records.specs.steps.Views.{own, itemIs, restCode, wholeOf, RestRead}
-use Rattle.item.specs.Contents.{ownContent}
+use Rattle.item.specs.Own.{ownContent}
 use Rattle.records.specs.declared.ItemRead.{ItemRead}
 use Rattle.records.specs.declared.ItemRead.the-variants as items
 use Rattle.records.specs.declared.Rest.{Rest}

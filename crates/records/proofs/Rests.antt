@@ -20,7 +20,7 @@ use Rattle.shapes.specs.declared.Shape.{Shape}
 use Rattle.shapes.specs.declared.FieldsRead.{FieldsRead}
 use Rattle.shapes.specs.declared.FieldsRead.the-variants as read
 use Rattle.item.specs.Records.{Content, content, asContent, readEx, readRest}
-use Rattle.item.specs.Contents.{ownFields}
+use Rattle.item.specs.Own.{ownFields}
 use Rattle.item.specs.steps.Taken.{fromFields}
 use Rattle.kinds.specs.declared.Kind.{Kind}
 use Rattle.kinds.specs.declared.Kind.the-variants as kinds

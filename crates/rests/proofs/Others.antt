@@ -14,7 +14,9 @@ use Rattle.extensions.specs.Extensions.{Payload, shaped, allData, extensionRow,
 use Rattle.extensions.specs.declared.Extension.{Extension}
 use Rattle.extensions.proofs.Each.{tested}
 use Rattle.item.specs.Records.{Content, readRest}
-use Rattle.item.specs.Contents.{firstNumber, tagCid, cidOf, ownPayload, ownFields}
+use Rattle.item.specs.Contents.{tagCid, cidOf, ownPayload}
+use Rattle.item.specs.steps.Beside.{firstNumber}
+use Rattle.item.specs.Own.{ownFields}
 use Rattle.kinds.specs.Kinds.{kindCid}
 use Rattle.kinds.specs.declared.Kind.{Kind}
 use Rattle.kinds.specs.declared.Kind.the-variants as kinds
@@ -23,7 +25,7 @@ use Rattle.item.specs.declared.Tag.the-variants.{Plain, Named, Other}
 use Rattle.kinds.specs.declared.Cid.{Cid}
 use Rattle.kinds.specs.declared.Cid.the-variants.{Of, NoCid}
 use Rattle.records.specs.steps.Views.{own, itemIs}
-use Rattle.item.specs.Contents.{ownContent}
+use Rattle.item.specs.Own.{ownContent}
 use Rattle.records.specs.declared.ItemRead.{ItemRead}
 use Rattle.state.specs.Sorts.{Sort, tagSort}
 use Rattle.state.specs.Sorts as sorts

@@ -9,7 +9,7 @@ use lib.IntN.{ℤ, pos, negsuc}
 use Rattle.refusal.specs.declared.Refusal.{Refusal}
 use Rattle.packer.specs.declared.Part.{Part}
 use Rattle.item.specs.Records.{Content}
-use Rattle.item.specs.Contents.{ownContent}
+use Rattle.item.specs.Own.{ownContent}
 use Rattle.item.specs.Said.{Said, gives, more, finish, refuses}
 use Rattle.state.specs.State.{Memory, present, holds}
 use Rattle.state.specs.Reading.{Event, tickStart, tickEnd, playerNew, playerChange, playerOld, input, other, Step, stepOf, refusalStep, outOf, nextTick, playerDiff, newPlayer, oldPlayer, inputDiff, inputNew, tickSkip}

@@ -34,33 +34,8 @@ use Rattle.kinds.specs.declared.Cid.the-variants.{Of, NoCid}
 use Rattle.state.specs.Sorts.{Change, Sort, sortOf}
 use Rattle.state.specs.Sorts as sorts
 use Rattle.state.specs.State.{Memory, withEntries, present, xOf, yOf, withPlayer, moved, holds, tenOf, withInput, goodReader}
-use Rattle.state.specs.Reading.{
-  Event,
-  tickStart,
-  tickEnd,
-  playerNew,
-  playerChange,
-  playerOld,
-  input,
-  other,
-  Step,
-  stepOf,
-  closing,
-  raising,
-  naming,
-  starting,
-  ending,
-  skipping,
-  nextTick,
-  sums,
-  first,
-  second,
-  atOrBelow,
-  nextKind,
-  openCall,
-  memoryOf,
-  readCall,
-}
+use Rattle.state.specs.Reading.{Event, tickStart, tickEnd, playerNew, playerChange, playerOld, input, other, Step, stepOf, closing, raising, naming, starting, ending, skipping, nextTick, sums, first, second, atOrBelow, nextKind, openCall, readCall}
+use Rattle.state.specs.steps.Parts.{memoryOf}
 use Rattle.state.specs.declared.Entries.{Entries}
 use Rattle.state.specs.declared.Scalars.{Scalars}
 use Rattle.state.specs.declared.Reader.{Reader}

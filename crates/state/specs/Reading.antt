@@ -266,16 +266,13 @@ openCall s m w last =
 unfoldable pub goodCall : Scalars → Memory → List ℕ → Bool → Step
 goodCall s m w last = cond (s .closed) (stepOf (refusing Closed) s m) (openCall s m w last)
 
-abbrev pub memoryOf : Entries → Memory
-memoryOf e = record { entries = e; input = zeros 10; former = zeros 10 }
-
 -- a call on any scalars and memory: 17 comes first
 abbrev pub callOn : Scalars → Memory → List ℕ → Bool → Step
 callOn s m w last = cond (goodReader (readerWith s (m .entries))) (goodCall s m w last) (stepOf (refusing BadState) s m)
 
 -- a call on any reader: beside an answer that is no input event stand zeros
 unfoldable pub readCall : Reader → List ℕ → Bool → Step
-readCall r w last = callOn (r .scalars) (memoryOf (r .entries)) w last
+readCall r w last = callOn (r .scalars) (record { entries = r .entries; input = zeros 10; former = zeros 10 }) w last
 
 abbrev pub readerAfter : Step → Reader
 readerAfter t = readerWith (t .scalars) (t .memory .entries)

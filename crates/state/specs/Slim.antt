@@ -1,6 +1,6 @@
 -- A reading call without a command's arguments.
-use Rattle.item.specs.Said.{Said, gives, more, finish, refuses}
-use Rattle.item.specs.Contents.{ownContent}
+use Rattle.item.specs.Said.{Said, gives, more, finish, refuses, refusing}
+use Rattle.item.specs.Own.{ownContent}
 use Rattle.state.specs.Reading.{
   Event,
   tickStart,
@@ -13,6 +13,9 @@ use Rattle.state.specs.Reading.{
   Step,
   stepOf,
 }
+use Rattle.state.specs.Views.{eventIs}
+use Rattle.state.specs.declared.Answer.{Answer}
+use Rattle.state.specs.declared.Answer.the-variants as answers
 
 -- an event without the arguments that stand beside a record
 abbrev pub slim : Event → Event
@@ -32,3 +35,10 @@ slimSaid (refuses n vs) = refuses n vs
 
 abbrev pub slimStep : Step → Step
 slimStep t = stepOf (slimSaid (t .said)) (t .scalars) (t .memory)
+
+-- what the code answers
+abbrev pub saidIs : Answer → Said Event
+saidIs (answers.Event e used) = gives (eventIs e) used
+saidIs answers.More = more
+saidIs (answers.Finish used) = finish used
+saidIs (answers.Refused r) = refusing r

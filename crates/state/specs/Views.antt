@@ -1,5 +1,4 @@
 -- What the code hands back, as the definitions say it.
-use Rattle.item.specs.Said.{Said, gives, more, finish, refusing}
 use Rattle.item.specs.Contents.{itemOf}
 use Rattle.state.specs.Reading.{
   Event,
@@ -13,8 +12,6 @@ use Rattle.state.specs.Reading.{
 }
 use Rattle.state.specs.declared.Event.the-variants as events
 use Rattle.state.specs.declared.Event as code
-use Rattle.state.specs.declared.Answer.{Answer}
-use Rattle.state.specs.declared.Answer.the-variants as answers
 
 abbrev pub eventIs : code.Event → Event
 eventIs (events.TickStart t) = tickStart t
@@ -24,9 +21,3 @@ eventIs (events.PlayerChange c x y old-x old-y) = playerChange c x y old-x old-y
 eventIs (events.PlayerOld c x y) = playerOld c x y
 eventIs (events.Input c former) = input c former
 eventIs (events.Record i) = other (itemOf i)
-
-abbrev pub saidIs : Answer → Said Event
-saidIs (answers.Event e used) = gives (eventIs e) used
-saidIs answers.More = more
-saidIs (answers.Finish used) = finish used
-saidIs (answers.Refused r) = refusing r

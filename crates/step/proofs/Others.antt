@@ -3,7 +3,7 @@ use mathlib.Core.Path.{_≡_}
 use Rattle.packer.specs.declared.Part.{Part}
 use Rattle.item.specs.Records.{Content}
 use Rattle.item.specs.Contents.{cidOf}
-use Rattle.item.specs.Contents.{ownContent}
+use Rattle.item.specs.Own.{ownContent}
 use Rattle.rests.proofs.Others as others
 
 pub cid-own : (c : Content Part) → cidOf (ownContent c) ≡ cidOf c

@@ -24,7 +24,7 @@ use Rattle.fields.specs.Fields.{int, num, got, refused}
 use Rattle.fields.specs.Remarks.{remarkIn}
 use Rattle.fields.proofs.Answers.{not-out, not-refused, same-got}
 use Rattle.fields.proofs.Taken.{field-taken}
-use Rattle.kinds.specs.Kinds.{kindOf, readKind, kindNumber}
+use Rattle.kinds.specs.Kinds.{kindOf, readKind, kindNumber, byClient, kindRow}
 use Rattle.kinds.specs.steps.Kinds.{withClient, extensionKind, afterNumber}
 use Rattle.item.specs.Records.{Rest, fields, extension, restOf}
 use Rattle.item.specs.Remarks.{clientRemark}
@@ -32,9 +32,13 @@ use Rattle.kinds.specs.declared.Version.{Version}
 use Rattle.kinds.specs.declared.Version.the-variants.{V1, V2}
 use Rattle.kinds.specs.declared.Kind.{Kind}
 use Rattle.kinds.specs.declared.Kind.the-variants as kinds
-use Rattle.written.specs.Written.{clientBytes, kindBytes, hasEx}
+use Rattle.written.specs.Written.{kindBytes, hasEx}
 use Rattle.written.specs.Form.{kindWritable}
 use Rattle.written.specs.Laws.{kindNumbers}
+
+-- a client that follows the number
+abbrev clientBytes : Kind → List ℕ
+clientBytes k = byClient [] (λ c. []) canonical [] (kindRow k .client)
 
 -- ---- what a number says
 

@@ -18,7 +18,8 @@ use Rattle.fields.specs.Forms.{writable, allWritable}
 use Rattle.fields.proofs.Answers.{and-both, and-split}
 use Rattle.item.specs.Records.{meaning, readRecord}
 use Rattle.item.specs.Remarks.{recordRemarks}
-use Rattle.item.specs.Contents.{itemOf, ownFields, recordOf, tidyRecord}
+use Rattle.item.specs.Contents.{itemOf, recordOf, tidyRecord}
+use Rattle.item.specs.Own.{ownFields}
 use Rattle.item.specs.steps.Beside.{beside, tidyKind, tidyTag}
 use Rattle.kinds.specs.declared.Version.{Version}
 use Rattle.kinds.specs.declared.Kind.{Kind}
@@ -27,7 +28,8 @@ use Rattle.item.specs.declared.Tag.{Tag}
 use Rattle.item.specs.declared.Tag.the-variants.{Plain, Named, Other}
 use Rattle.item.specs.declared.Record.{Record}
 use Rattle.item.proofs.Lengths.{lengths}
-use Rattle.written.specs.Written.{tagCount, recordBytes}
+use Rattle.written.specs.Written.{recordBytes}
+use Rattle.written.specs.Form.{tagCount}
 use Rattle.written.specs.Form.{tagWritable, contentWritable, hasForm}
 use Rattle.written.proofs.Whole.{record-same}
 

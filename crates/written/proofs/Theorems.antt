@@ -8,7 +8,8 @@ use Rattle.fields.specs.Laws.{isOut}
 use Rattle.fields.proofs.Answers.{and-split}
 use Rattle.item.specs.Records.{meaning, readRecord}
 use Rattle.item.specs.Contents.{recordOf}
-use Rattle.written.specs.Written.{writeContent, tagCount, recordBytes}
+use Rattle.written.specs.Written.{writeContent, recordBytes}
+use Rattle.written.specs.Form.{tagCount}
 use Rattle.written.specs.Form.{contentWritable, hasForm}
 use Rattle.written.specs.Laws.{WritableIsForm, RecordWrittenReads, RecordReadsWritten, Rewritten, RecordSteady, RecordCalls}
 use Rattle.written.proofs.Back.{tag-back}

@@ -13,7 +13,8 @@ use Rattle.packer.specs.Parts.{shown}
 use Rattle.packer.specs.declared.Part.{Part}
 use Rattle.packer.proofs.Parts.{shown-length}
 use Rattle.fields.specs.Fields.{Field, int, dt, mask, str, uuid, blob, args, Value, num, bytes, strings, onNum, onBytes, onStrings, mean}
-use Rattle.fields.specs.Writing.{inside, valueInside, partsInside}
+use Rattle.fields.specs.Writing.{inside, partsInside}
+use Rattle.fields.specs.steps.Sorts.{valueInside}
 use Rattle.fields.specs.Forms.{natural32, SortOf, Sorted, AllSorted}
 use Rattle.fields.proofs.Answers.{and-split}
 use Rattle.item.specs.declared.Tag.{Tag}

@@ -31,7 +31,11 @@ use Rattle.item.specs.declared.Item.the-variants as items
 use Rattle.item.specs.declared.Record.{Record}
 use Rattle.written.specs.Written.{payloadBytes, hasEx}
 use Rattle.written.specs.Form.{contentWritable, hasForm}
-use Rattle.written.specs.Unwritable.{isField, someOf, recordValues, recordWritable}
+use Rattle.written.specs.Unwritable.{fieldNumber, someOf, recordValues, recordWritable}
+
+-- a field is of this sort
+abbrev isField : Field → Field → Bool
+isField g f = eqb (fieldNumber g) (fieldNumber f)
 
 -- ---- tests put together in another order
 

@@ -12,7 +12,8 @@ use Rattle.num.proofs.Cases.{by-bool}
 use Rattle.varint.specs.Laws.{Bytes}
 use Rattle.packer.specs.declared.Part.{Part}
 use Rattle.fields.specs.Fields.{Value, num, bytes, strings}
-use Rattle.fields.specs.Writing.{inside, valueInside, partsInside}
+use Rattle.fields.specs.Writing.{inside, partsInside}
+use Rattle.fields.specs.steps.Sorts.{valueInside}
 use Rattle.fields.specs.steps.Sorts.{allInside}
 use Rattle.fields.proofs.Answers.{and-both, and-split}
 

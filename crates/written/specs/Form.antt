@@ -8,17 +8,18 @@ use Rattle.packer.specs.Texts.{isData}
 use Rattle.fields.specs.Fields.{Value}
 use Rattle.fields.specs.Writing.{partsInside}
 use Rattle.fields.specs.Forms.{allWritable}
+use Rattle.fields.specs.declared.Args.{Args}
 use Rattle.kinds.specs.Kinds.{byClient, byBeside, kindRow}
 use Rattle.extensions.specs.Extensions.{Payload, shaped, allData, payloadAt, find, isUnknown}
 use Rattle.item.specs.Records.{Content, meaning, restOf}
-use Rattle.item.specs.Contents.{recordOf}
+use Rattle.item.specs.Contents.{besideOf, recordOf}
 use Rattle.kinds.specs.declared.Version.{Version}
 use Rattle.kinds.specs.declared.Kind.{Kind}
 use Rattle.item.specs.declared.Tag.{Tag}
 use Rattle.item.specs.declared.Tag.the-variants.{Plain, Named, Other}
 use Rattle.item.specs.declared.Record.{Record}
 use Rattle.kinds.specs.Kinds.{hasEx}
-use Rattle.written.specs.Written.{allFields, bytesAt, payloadBytes, tagCount}
+use Rattle.written.specs.Written.{allFields, bytesAt, payloadBytes}
 
 -- a client that is the kind's number is none below 0; an extension is written by its identifier
 abbrev pub kindWritable : Kind → Bool
@@ -35,6 +36,10 @@ tagWritable v Other vs = hasEx v && (isUnknown (find (bytesAt 0 vs)) && isData (
 
 unfoldable pub contentWritable : Version → Content (List ℕ) → Bool
 contentWritable v c = tagWritable v (c .tag) (c .values)
+
+-- the arguments that a record has beside it
+abbrev pub tagCount : Tag → Args → ℕ
+tagCount t xs = byBeside 0 0 (xs .count) 0 (besideOf t)
 
 -- at most 16 arguments, every part inside the bytes lent, and a written form
 unfoldable pub hasForm : Version → List ℕ → Record → Bool

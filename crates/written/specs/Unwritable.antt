@@ -12,12 +12,12 @@ use Rattle.fields.specs.Fields.{Field, int, dt, mask, str, uuid, blob, args, Va
 use Rattle.fields.specs.Writing.{every, smallDt, partsInside}
 use Rattle.extensions.specs.Extensions.{payloadAt, find, isUnknown}
 use Rattle.item.specs.Records.{restOf}
-use Rattle.item.specs.Contents.{byTag, ownPayload, recordOf}
+use Rattle.item.specs.Contents.{byTag, ownPayload, besideOf, recordOf}
 use Rattle.kinds.specs.declared.Version.{Version}
-use Rattle.kinds.specs.Kinds.{byClient, kindRow}
+use Rattle.kinds.specs.Kinds.{byClient, byBeside, kindRow}
 use Rattle.item.specs.declared.Tag.{Tag}
 use Rattle.item.specs.declared.Record.{Record}
-use Rattle.written.specs.Written.{allFields, bytesAt, payloadBytes, hasEx, tagCount, recordBytes}
+use Rattle.written.specs.Written.{allFields, bytesAt, payloadBytes, hasEx, recordBytes}
 
 -- ---- the fields of a record, with their values
 
@@ -34,15 +34,11 @@ fieldNumber uuid = 4
 fieldNumber blob = 5
 fieldNumber args = 6
 
--- a field is of this sort
-abbrev pub isField : Field → Field → Bool
-isField g f = eqb (fieldNumber g) (fieldNumber f)
-
 -- the test holds of a value of a field of the sort g
 abbrev pub someOf : Field → (Value (List ℕ) → Bool) → List Field → List (Value (List ℕ)) → Bool
 someOf g test [] vs = false
 someOf g test (f ∷ fs) [] = false
-someOf g test (f ∷ fs) (v ∷ vs) = (isField g f && test v) || someOf g test fs vs
+someOf g test (f ∷ fs) (v ∷ vs) = (eqb (fieldNumber g) (fieldNumber f) && test v) || someOf g test fs vs
 
 -- the values of a record, with the bytes that its parts show
 abbrev pub recordValues : List ℕ → Record → List (Value (List ℕ))
@@ -71,7 +67,7 @@ zeroInString s r =
 -- ---- 4: more than 16 arguments
 
 abbrev pub manyArguments : Record → Bool
-manyArguments r = not (leb (tagCount (recordOf r .tag) (r .args)) 16)
+manyArguments r = not (leb (byBeside 0 0 (r .args .count) 0 (besideOf (recordOf r .tag))) 16)
 
 -- ---- 5: data above 2147483647 bytes, an extension's payload too
 

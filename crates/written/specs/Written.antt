@@ -7,11 +7,10 @@ use Rattle.varint.specs.Written.{canonical}
 use Rattle.packer.specs.Texts.{dataBytes}
 use Rattle.fields.specs.Fields.{Field, Value, bytes, onBytes}
 use Rattle.fields.specs.Writing.{writeFields}
-use Rattle.fields.specs.declared.Args.{Args}
-use Rattle.kinds.specs.Kinds.{byClient, byBeside, kindRow, kindNumber}
+use Rattle.kinds.specs.Kinds.{byClient, kindRow, kindNumber}
 use Rattle.extensions.specs.Extensions.{Payload, shaped, allData, idAt, payloadAt}
 use Rattle.item.specs.Records.{Content, meaning, Rest, fields, extension, restOf}
-use Rattle.item.specs.Contents.{besideOf, recordOf}
+use Rattle.item.specs.Contents.{recordOf}
 pub use Rattle.kinds.specs.Kinds.{hasEx}
 use Rattle.kinds.specs.declared.Kind.{Kind}
 use Rattle.item.specs.declared.Tag.{Tag}
@@ -20,12 +19,9 @@ use Rattle.item.specs.declared.Record.{Record}
 
 -- ---- the bytes of a record, of its values
 
--- a client that follows the number
-abbrev pub clientBytes : Kind → List ℕ
-clientBytes k = byClient [] (λ c. []) canonical [] (kindRow k .client)
-
+-- the kind's number, and a client that follows it
 abbrev pub kindBytes : Kind → List ℕ
-kindBytes k = canonical (kindNumber k) ++ clientBytes k
+kindBytes k = canonical (kindNumber k) ++ byClient [] (λ c. []) canonical [] (kindRow k .client)
 
 abbrev pub allFields : Rest → List Field
 allFields (fields fs gs) = fs ++ gs
@@ -52,10 +48,6 @@ unfoldable pub writeContent : Content (List ℕ) → List ℕ
 writeContent c = tagBytes (c .tag) (c .values)
 
 -- ---- a record of the program, with the bytes lent with it
-
--- the arguments that a record has beside it
-abbrev pub tagCount : Tag → Args → ℕ
-tagCount t xs = byBeside 0 0 (xs .count) 0 (besideOf t)
 
 unfoldable pub recordBytes : List ℕ → Record → List ℕ
 recordBytes s r = writeContent (meaning s (recordOf r))

@@ -1,6 +1,6 @@
 -- What each sort of field makes of what was read, by name.
 use Prim.Native.Nat.{ℕ}
-use mathlib.Core.Bool.{Bool, cond}
+use mathlib.Core.Bool.{Bool, true, cond}
 use mathlib.Core.List.{List, [], _∷_, _++_}
 use lib.ListN.{length}
 use lib.Dec.{ltb}
@@ -20,6 +20,7 @@ use Rattle.fields.specs.Fields.{
   num,
   bytes,
   strings,
+  onValue,
   Reading,
   got,
   refused,
@@ -77,6 +78,9 @@ allNoZero bs = every noZero bs
 
 abbrev pub allInside : List ℕ → List Part → Bool
 allInside s ps = every (inside s) ps
+
+abbrev pub valueInside : List ℕ → Value Part → Bool
+valueInside s v = onValue (λ z. true) (inside s) (every (inside s)) v
 
 -- ---- what stands beside a record
 

@@ -1,8 +1,9 @@
 -- What stands beside a record, by kind and by tag.
 use mathlib.Core.List.{List, [], _∷_, map}
-use lib.IntN.{ℤ}
+use lib.ListN.{getD}
+use lib.IntN.{ℤ, pos}
 use Rattle.packer.specs.declared.Part.{Part}
-use Rattle.fields.specs.Fields.{Value, num, strings}
+use Rattle.fields.specs.Fields.{Value, num, strings, onNum}
 use Rattle.fields.specs.Views.{zeros, argsWith}
 use Rattle.fields.specs.declared.Args.{Args}
 use Rattle.kinds.specs.Kinds.{Beside, byBeside, kindRow}
@@ -29,3 +30,7 @@ tidyTag t r = tidyBeside (besideOf t) r
 
 abbrev pub tidyKind : Kind → Record → Record
 tidyKind k r = tidyBeside (kindRow k .beside) r
+
+-- the first number of a record's values
+abbrev pub firstNumber : List (Value Part) → ℤ
+firstNumber vs = onNum (pos 0) (λ z. z) (getD vs 0 (num (pos 0)))

@@ -6,7 +6,8 @@ use Rattle.packer.specs.declared.Part.{Part}
 use Rattle.shapes.specs.steps.Shapes.{fieldsWith, valuesIn, tidyFields}
 use Rattle.shapes.specs.declared.Fields.{Fields}
 use Rattle.item.specs.Records.{Content, content}
-use Rattle.item.specs.Contents.{itemOf, ownFields}
+use Rattle.item.specs.Contents.{itemOf}
+use Rattle.item.specs.Own.{ownFields}
 use Rattle.item.specs.declared.Tag.{Tag}
 use Rattle.item.specs.declared.Item.{Item}
 use Rattle.item.specs.declared.Taken.{Taken}

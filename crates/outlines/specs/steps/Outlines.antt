@@ -19,7 +19,8 @@ use Rattle.kinds.specs.declared.Kind.{Kind}
 use Rattle.kinds.specs.declared.Kind.the-variants as kinds
 use Rattle.item.specs.Records.{Content}
 use Rattle.item.specs.steps.Beside.{beside}
-use Rattle.written.specs.Written.{tagCount, tagBytes}
+use Rattle.written.specs.Written.{tagBytes}
+use Rattle.written.specs.Form.{tagCount}
 use Rattle.written.specs.Form.{tagWritable}
 use Rattle.pieces.specs.steps.Pieces.{noFields, planOf, piecesOk, piecesBytes, piecesOf}
 use Rattle.pieces.specs.declared.Piece.{Piece}

@@ -1,7 +1,8 @@
 -- `reader::open_told` meets its contract. Assumes nothing.
 use mathlib.Core.Path.{_≡_, ap, _∙_}
 use Rattle.state.specs.State.{entriesWith}
-use Rattle.state.specs.Reading.{Step, openCall, memoryOf, readerAfter}
+use Rattle.state.specs.Reading.{Step, openCall, readerAfter}
+use Rattle.state.specs.steps.Parts.{memoryOf}
 use borrow.Author.Needs.{needs}
 use Rattle.reader.proofs.open_told.Statement.{statement}
 use Rattle.reader.proofs.open_told.Tie as tie

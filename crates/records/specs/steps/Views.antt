@@ -12,7 +12,8 @@ use Rattle.fields.specs.declared.ArgsAnswer.{ArgsAnswer}
 use Rattle.fields.specs.declared.ArgsAnswer.the-variants as args
 use Rattle.shapes.specs.declared.Shape.the-variants as shapes
 use Rattle.item.specs.Records.{Content, readRest, readRecord}
-use Rattle.item.specs.Contents.{itemOf, ownContent, recordWith, noArgs, recordOf, blank, tidyRecord}
+use Rattle.item.specs.Contents.{itemOf, recordWith, noArgs, recordOf, blank, tidyRecord}
+use Rattle.item.specs.Own.{ownContent}
 use Rattle.kinds.specs.declared.Version.{Version}
 use Rattle.kinds.specs.declared.Kind.{Kind}
 use Rattle.kinds.specs.declared.Kind.the-variants as kinds

@@ -9,7 +9,7 @@ use Rattle.refusal.specs.declared.Refusal.{Refusal}
 use Rattle.refusal.specs.declared.Refusal.the-variants.{InvalidClientId}
 use Rattle.state.specs.State.{Memory, entriesWith}
 use Rattle.state.specs.Reading.{Step, stepOf}
-use Rattle.state.specs.Views.{saidIs}
+use Rattle.state.specs.Slim.{saidIs}
 use Rattle.state.specs.declared.Outcome.{Outcome}
 
 -- the arrays that are lent, as one

@@ -7,6 +7,7 @@ use lib.IntN.{ℤ}
 use Rattle.refusal.specs.declared.Refusal.the-variants.{TickOverflow}
 use Rattle.packer.specs.declared.Part.{Part}
 use Rattle.fields.specs.Fields.{Reading}
+use Rattle.fields.specs.Views.{zeros}
 use Rattle.item.specs.Said.{gives}
 use Rattle.item.specs.Records.{Content}
 use Rattle.item.specs.Contents.{cidOf}
@@ -33,6 +34,7 @@ use Rattle.state.specs.Reading.{
   withRule,
 }
 use Rattle.state.specs.declared.Pending.{Pending}
+use Rattle.state.specs.declared.Entries.{Entries}
 use Rattle.state.specs.declared.Scalars.{Scalars}
 use Rattle.state.specs.declared.Next.{Next}
 use Rattle.state.specs.declared.Rule.{Rule}
@@ -79,3 +81,7 @@ withRest s m last x = ifRead s m last (apply s m) x
 
 abbrev pub withKind : Scalars → Memory → List ℕ → Bool → Reading Kind → Step
 withKind s m w last x = ifRead s m last (λ k n. withRule s m w last k n (tickRule s k)) x
+
+-- entries, with zeros for the numbers of an input
+abbrev pub memoryOf : Entries → Memory
+memoryOf e = record { entries = e; input = zeros 10; former = zeros 10 }
