@@ -1,7 +1,7 @@
 // What test programs share. Their inputs stand one behind the other, each after its length in one to three bytes, the low one first.
 ghost use mathlib.Core.Path.{_≡_};
-ghost use Prim.Native.Nat.{_+_, _-_, _<_, _≤_, min};
-ghost use lib.ListN.{length, getD};
+ghost use Prim.Native.Nat.{ℕ, _+_, _-_, _<_, _≤_, min};
+ghost use lib.ListN.{length, getD, replicate};
 ghost use mir.Syntax.{w32};
 ghost use mir.Val.{toZ};
 ghost use Rattle.packer.specs.Parts.{part, shown};
@@ -196,7 +196,7 @@ fn small(b: u8) -> i32
 
 // Room for many inputs in one run.
 pub fn buffer() -> [u8; 1048576]
-    ensures { λ r. ⌜ 1048576 ≡ length r ⌝ }
+    ensures { λ r. ⌜ (r ≡ replicate {A = ℕ} 1048576 0) × (1048576 ≡ length r) ⌝ }
 {
     [0; 1048576]
 }
