@@ -10,7 +10,7 @@ use mir.Syntax.{w32}
 use mir.Val.{SFits}
 use Rattle.packer.specs.Texts.{noZero, isData}
 use Rattle.fields.specs.Fields.{Field, int, dt, mask, str, uuid, blob, args, Value, bytes, onNum, onBytes, onStrings}
-use Rattle.fields.specs.Writing.{every, smallDt}
+use Rattle.fields.specs.Writing.{allHold, smallDt}
 
 abbrev pub natural32 : ℤ → Type 0
 natural32 (pos n) = n < 4294967296
@@ -45,7 +45,7 @@ writable mask v = true
 writable str v = onBytes false noZero v
 writable uuid v = true
 writable blob v = onBytes false isData v
-writable args v = onStrings false (λ bs. leb (length bs) 16 && every noZero bs) v
+writable args v = onStrings false (λ bs. leb (length bs) 16 && allHold noZero bs) v
 
 abbrev pub allWritable : List Field → List (Value (List ℕ)) → Bool
 allWritable [] vs = true

@@ -15,9 +15,9 @@ use Rattle.fields.specs.Fields.{Field, int, dt, mask, str, uuid, blob, a
 -- ---- tests
 
 -- of all in a list
-abbrev pub every : {A : Type 0} → (A → Bool) → List A → Bool
-every test [] = true
-every test (x ∷ xs) = test x && every test xs
+abbrev pub allHold : {A : Type 0} → (A → Bool) → List A → Bool
+allHold test [] = true
+allHold test (x ∷ xs) = test x && allHold test xs
 
 abbrev pub smallDt : ℤ → Bool
 smallDt (pos n) = leb n 2147483647
@@ -50,4 +50,4 @@ abbrev pub inside : List ℕ → Part → Bool
 inside s p = leb (p .at + p .len) (length s)
 
 abbrev pub partsInside : List ℕ → List (Value Part) → Bool
-partsInside s vs = every (onValue (λ z. true) (inside s) (every (inside s))) vs
+partsInside s vs = allHold (onValue (λ z. true) (inside s) (allHold (inside s))) vs

@@ -16,7 +16,7 @@ use Rattle.packer.specs.Texts.{noZero, isData}
 use Rattle.packer.specs.declared.Part.{Part}
 use Rattle.fields.specs.Fields.{Field, int, dt, str, blob, args, Value, num, onNum, onBytes, onStrings, mean}
 use Rattle.fields.specs.Views.{tenFields}
-use Rattle.fields.specs.Writing.{every, smallDt, inside, partsInside}
+use Rattle.fields.specs.Writing.{allHold, smallDt, inside, partsInside}
 use Rattle.fields.specs.steps.Sorts.{allInside, allNoZero}
 use Rattle.fields.specs.Forms.{allWritable}
 use Rattle.fields.specs.declared.Args.{Args}
@@ -140,7 +140,7 @@ module _ (v : Version) (s : List ℕ) (ten : List ℤ) (xs : Args) where
   zero-in = onBytes false (λ b. not (noZero b))
 
   abbrev zero-in-some : Value (List ℕ) → Bool
-  zero-in-some = onStrings false (λ bs. not (every noZero bs))
+  zero-in-some = onStrings false (λ bs. not (allHold noZero bs))
 
   abbrev long : Value (List ℕ) → Bool
   long = onBytes false (λ b. not (isData b))

@@ -9,7 +9,7 @@ use Rattle.varint.specs.Written.{writtenIf, wroteSaid, writing}
 use Rattle.varint.specs.declared.Wrote.{Wrote}
 use Rattle.packer.specs.Texts.{noZero, isData}
 use Rattle.fields.specs.Fields.{Field, int, dt, mask, str, uuid, blob, args, Value, onNum, onBytes, onStrings, mean}
-use Rattle.fields.specs.Writing.{every, smallDt, partsInside}
+use Rattle.fields.specs.Writing.{allHold, smallDt, partsInside}
 use Rattle.extensions.specs.Extensions.{payloadAt, find, isUnknown}
 use Rattle.item.specs.Records.{restOf}
 use Rattle.item.specs.Contents.{byTag, ownPayload, besideOf, recordOf}
@@ -62,7 +62,7 @@ largeDt s r = someField dt (onNum false (λ z. not (smallDt z))) s r
 
 abbrev pub zeroInString : List ℕ → Record → Bool
 zeroInString s r =
-    someField str (onBytes false (λ b. not (noZero b))) s r || someField args (onStrings false (λ bs. not (every noZero bs))) s r
+    someField str (onBytes false (λ b. not (noZero b))) s r || someField args (onStrings false (λ bs. not (allHold noZero bs))) s r
 
 -- ---- 4: more than 16 arguments
 

@@ -31,7 +31,7 @@ use Rattle.fields.specs.Fields.{
   argsFrom,
 }
 use Rattle.fields.specs.Views.{tenFields}
-use Rattle.fields.specs.Writing.{every, inside}
+use Rattle.fields.specs.Writing.{allHold, inside}
 
 -- ---- a field
 
@@ -74,13 +74,13 @@ andThen x k = withGot x (λ v next. push v (k next))
 -- ---- tests
 
 abbrev pub allNoZero : List (List ℕ) → Bool
-allNoZero bs = every noZero bs
+allNoZero bs = allHold noZero bs
 
 abbrev pub allInside : List ℕ → List Part → Bool
-allInside s ps = every (inside s) ps
+allInside s ps = allHold (inside s) ps
 
 abbrev pub valueInside : List ℕ → Value Part → Bool
-valueInside s v = onValue (λ z. true) (inside s) (every (inside s)) v
+valueInside s v = onValue (λ z. true) (inside s) (allHold (inside s)) v
 
 -- ---- what stands beside a record
 
