@@ -6,7 +6,7 @@ use native.Mathlib.Omega.{arith}
 use borrow.Author.Needs.{needs}
 use borrow.Author.Tests.{ne-eqb}
 use lib.Dec.{eqb}
-use Rattle.replayer.specs.Replay.{tooLong}
+use Rattle.windows.specs.Windows.{tooLong}
 use Rattle.replayer.proofs.is_too_long.Statement.{statement}
 use Rattle.replayer.proofs.is_too_long.Tie as tie
 
