@@ -1,5 +1,5 @@
 -- The replay program on the bytes at hand: its lines, one turn; and what it prints of a whole body. docs/FORMAT.md, "The replay program".
-use Prim.Native.Nat.{ℕ, _+_, _-_, _/_, min}
+use Prim.Native.Nat.{ℕ, _-_, _/_, min}
 use mathlib.Core.Path.{_≡_}
 use mathlib.Core.Bool.{Bool, false}
 use mathlib.Core.List.{List, [], _∷_, _++_}

@@ -1,4 +1,4 @@
--- What holds of turns, for any printer, as statements; proofs/Whole.antt, Bound.antt and EnoughTurns.antt prove each.
+-- What holds of turns, for any printer, as statements; proofs/Whole.antt, Wants.antt, Bound.antt and EnoughTurns.antt prove each.
 use Prim.Native.Nat.{ℕ, suc, _+_, _≤_}
 use mathlib.Core.Path.{_≡_}
 use mathlib.Core.Bool.{Bool, true, false, cond}
