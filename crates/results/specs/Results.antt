@@ -141,8 +141,8 @@ abbrev pub kept : Results → List Finish → Results
 kept l fs = cond (fits (keep l fs)) (keep l fs) l
 
 -- finishes into a list whose arrays are lent
-pub record Keeps (l : Results) (fs : List Finish) (r : Counted) (marks : List ℕ) (times ticks : List ℤ) : Type 0 where
+pub record Keeps (l : Results) (fs : List Finish) (r : Counted) (marks₁ : List ℕ) (times₁ ticks₁ : List ℤ) : Type 0 where
   pub said : r ≡ cond (fits (keep l fs)) (Others (keep l fs .others)) (Refused BadState)
-  pub marks : marks ≡ kept l fs .marks
-  pub times : times ≡ kept l fs .times
-  pub ticks : ticks ≡ kept l fs .ticks
+  pub marks : marks₁ ≡ kept l fs .marks
+  pub times : times₁ ≡ kept l fs .times
+  pub ticks : ticks₁ ≡ kept l fs .ticks

@@ -1,25 +1,14 @@
 // A results list: of each client 0 to 127 its finish with the lowest time.
 ghost use mathlib.Core.Path.{_≡_};
-ghost use Prim.Native.Nat.{ℕ, _+_, _<_};
+ghost use Prim.Native.Nat.{_+_, _<_};
 ghost use mathlib.Core.Bool.{cond};
 ghost use lib.Dec.{leb};
-ghost use lib.IntN.{ℤ, pos};
 ghost use Rattle.refusal.specs.declared.Refusal.the-variants.{BadState};
 ghost use Rattle.item.specs.Contents.{itemOf};
 ghost use Rattle.state.specs.Views.{eventIs};
-ghost use Rattle.results.specs.Results.{
-  finish,
-  isPlayerFinish,
-  finishIn,
-  finishOf,
-  tickAfter,
-  resultsWith,
-  noResults,
-  keepAt,
-  Keeps,
-};
+ghost use Rattle.results.specs.Results.{isPlayerFinish, finishOf, tickAfter, resultsWith, noResults, Keeps};
 ghost use Rattle.results.specs.declared.Counted.the-variants as counted;
-ghost use Rattle.results.specs.steps.Keeps.{finishIs};
+ghost use Rattle.results.specs.steps.Keeps.{FinishInRecord, FinishOfEvent, KeepsRow};
 use extensions::Extension;
 use item::Item;
 use item::Tag;
@@ -88,7 +77,7 @@ fn is_player_finish(which: Extension) -> bool
 
 // The finish that a record is, whatever tick is open.
 fn finish_in(item: Item) -> FinishOf
-    ensures { λ r. ⌜ (k : ℤ) → finishIs k r ≡ finishIn k (itemOf item) ⌝ }
+    ensures { λ r. ⌜ FinishInRecord (itemOf item) r ⌝ }
 {
     let t = item.take_apart();
     let tag = t.tag;
@@ -110,7 +99,7 @@ fn finish_in(item: Item) -> FinishOf
 
 // The finish that an event is, whatever tick is open.
 pub fn finish_of(event: Event) -> FinishOf
-    ensures { λ r. ⌜ (k : ℤ) → finishIs k r ≡ finishOf k (eventIs event) ⌝ }
+    ensures { λ r. ⌜ FinishOfEvent (eventIs event) r ⌝ }
 {
     match event {
         Event::TickStart(_) => FinishOf::NoFinish,
@@ -148,7 +137,7 @@ fn keep_row(
     ticks: &mut [i32; 128],
 )
     requires { ⌜ c < 128 ⌝ }
-    ensures { λ _. ⌜ (n : ℕ) → resultsWith (now (marks .exit)) (now (times .exit)) (now (ticks .exit)) n ≡ keepAt (resultsWith (now (marks .entry)) (now (times .entry)) (now (ticks .entry)) n) (pos c) (finish (pos c) time tick) ⌝ }
+    ensures { λ _. ⌜ KeepsRow c time tick (now (marks .entry)) (now (times .entry)) (now (ticks .entry)) (now (marks .exit)) (now (times .exit)) (now (ticks .exit)) ⌝ }
 {
     if marks[c] == 1 {
         if times[c] <= time {
