@@ -2,3 +2,4 @@ pub mod Fronts
 pub mod Places
 pub mod Order
 pub mod Rows
+pub mod Turns
