@@ -9,7 +9,8 @@ use lib.IntN.{ℤ, pos, negsuc}
 use lib.Signed.{ltZ}
 use Rattle.refusal.specs.declared.Refusal.the-variants.{BadState}
 use Rattle.packer.specs.declared.Part.{Part}
-use Rattle.fields.specs.Views.{zeros, numbers}
+use Rattle.fields.specs.Fields.{num, onNum}
+use Rattle.fields.specs.Views.{zeros}
 use Rattle.kinds.specs.Magic.{sameBytes}
 use Rattle.extensions.specs.Extensions.{idAt}
 use Rattle.extensions.specs.declared.Extension.{Extension}
@@ -18,7 +19,7 @@ use Rattle.item.specs.Records.{Content}
 use Rattle.item.specs.Contents.{byTag}
 use Rattle.item.specs.declared.Tag.{Tag}
 use Rattle.state.specs.State.{sameInt}
-use Rattle.state.specs.Reading.{Event, tickStart, tickEnd, playerNew, playerChange, playerOld, input, other, first, second}
+use Rattle.state.specs.Reading.{Event, tickStart, tickEnd, playerNew, playerChange, playerOld, input, other}
 use Rattle.results.specs.declared.Results.{Results}
 use Rattle.results.specs.declared.Counted.{Counted}
 use Rattle.results.specs.declared.Counted.the-variants.{Others, Refused}
@@ -38,10 +39,13 @@ finish c t k = record { client = c; time = t; tick = k }
 unfoldable pub isPlayerFinish : Extension → Bool
 isPlayerFinish e = sameBytes (idAt e) (idAt PlayerFinish)
 
+-- a record's number at a place
+abbrev pub numberAt : ℕ → Content Part → ℤ
+numberAt i r = onNum (pos 0) (λ z. z) (getD (r .values) i (num (pos 0)))
+
 -- a PlayerFinish record (client, time), in tick k
 abbrev pub finishIn : ℤ → Content Part → List Finish
-finishIn k r =
-    cond (byTag (λ kind. false) isPlayerFinish false (r .tag)) (finish (first (numbers (r .values))) (second (numbers (r .values))) k ∷ []) []
+finishIn k r = cond (byTag (λ kind. false) isPlayerFinish false (r .tag)) (finish (numberAt 0 r) (numberAt 1 r) k ∷ []) []
 
 -- the finish that an event is, if tick k is open
 abbrev pub finishOf : ℤ → Event → List Finish
