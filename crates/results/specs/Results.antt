@@ -67,6 +67,11 @@ tickAfter k (playerOld c x y) = k
 tickAfter k (input c former) = k
 tickAfter k (other r) = k
 
+-- the tick that is open behind events
+unfoldable pub ticksAfter : ℤ → List Event → ℤ
+ticksAfter k [] = k
+ticksAfter k (e ∷ es) = ticksAfter (tickAfter k e) es
+
 -- the finishes among events, the first first
 unfoldable pub finishesIn : ℤ → List Event → List Finish
 finishesIn k [] = []
