@@ -1,5 +1,4 @@
 -- What holds of each finish in a list: of two lists one behind the other, and of one among them. Assumes nothing.
-use mathlib.Core.Path.{_≡_}
 use mathlib.Core.List.{List, [], _∷_, _++_}
 use Rattle.results.specs.Results.{Finish}
 use Rattle.results.specs.Laws.{AllOf}

@@ -1,15 +1,14 @@
 -- A client's row is the first of its finishes with the lowest time: kept from finish to finish. Assumes nothing.
 use Prim.Native.Nat.{ℕ}
-use mathlib.Core.Path.{_≡_, refl, sym, ap, _∙_}
-use mathlib.Core.Bool.{Bool, true, false, cond}
+use mathlib.Core.Path.{_≡_, refl, ap, _∙_}
+use mathlib.Core.Bool.{true, cond}
 use mathlib.Core.List.{List, [], _∷_, _++_, append-assoc, append-nil}
-use native.Mathlib.Omega.{arith}
-use lib.IntN.{ℤ, pos}
+use lib.IntN.{pos}
 use lib.Signed.{ltZ, leZ}
 use Rattle.num.proofs.Cases.{by-bool}
 use Rattle.state.specs.State.{sameInt}
 use Rattle.results.specs.Results.{Finish, lower, bestAfter, best}
-use Rattle.results.specs.Laws.{AllOf, Among, IsFirstLowest, FirstLowest}
+use Rattle.results.specs.Laws.{AllOf, IsFirstLowest, FirstLowest}
 use Rattle.results.proofs.Order.{no-higher, same-le, lt-le-lt, lt-le, same-true, same-false}
 use Rattle.results.proofs.AllOf.{all-map, all-append}
 
@@ -47,11 +46,11 @@ module _ (c : ℕ) (fs : List Finish) (f : Finish) where
             record {
               before = k .at .before;
               after = k .at .after ++ f ∷ [];
-              split = ap (λ (x : List Finish). x ++ f ∷ []) (k .at .split) ∙ append-assoc (k .at .before) (g ∷ k .at .after) (f ∷ [])
+              split = ap (λ (x : List Finish). x ++ f ∷ []) (k .at .split) ∙ append-assoc (k .at .before) (g ∷ k .at .after) (f ∷ []);
             };
         client = k .client;
         higher = k .higher;
-        no-lower = all-append (NoLower c g) (k .at .after) (f ∷ []) (k .no-lower) (h, tt)
+        no-lower = all-append (NoLower c g) (k .at .after) (f ∷ []) (k .no-lower) (h, tt);
       }
 
   -- a finish below all before it

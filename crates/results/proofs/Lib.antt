@@ -7,3 +7,4 @@ pub mod Bests
 pub mod Listed
 pub mod Rises
 pub mod Lists
+pub mod Theorems

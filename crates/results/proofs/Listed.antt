@@ -1,15 +1,15 @@
 -- Every finish is counted or has a row of its client, and every row is a finish. Assumes nothing.
 use Prim.Native.Nat.{ℕ, zero, suc, _+_, _≤_, _<_}
-use mathlib.Core.Path.{_≡_, refl, sym, ap, _∙_}
-use mathlib.Core.Logic.{_⊎_, inl, inr}
-use mathlib.Core.Bool.{Bool, true, false, cond}
+use mathlib.Core.Path.{_≡_, refl, ap, _∙_}
+use mathlib.Core.Logic.{inl, inr}
+use mathlib.Core.Bool.{true, false}
 use mathlib.Core.List.{List, [], _∷_, _++_}
 use native.Mathlib.Omega.{arith}
 use lib.IntN.{ℤ, pos, negsuc}
 use borrow.Author.Tests.{lt-ltb, ltb-true}
 use Rattle.num.proofs.Cases.{by-bool}
 use Rattle.results.specs.Results.{Finish, best, bestsBelow, isListed, othersIn}
-use Rattle.results.specs.Laws.{AllOf, Among, IsCounted, HasRow, EveryFinishListed, RowsAreFinishes}
+use Rattle.results.specs.Laws.{AllOf, Among, HasRow, EveryFinishListed, RowsAreFinishes}
 use Rattle.results.proofs.AllOf.{all-append, all-at}
 use Rattle.results.proofs.Bests.{Other, NoLower, none-lower, KeptOf, kept-best}
 
@@ -36,7 +36,7 @@ module _ (f : Finish) (fs : List Finish) (at : Among f fs) (c : ℕ) (e : f .cli
         listed = h;
         row = g;
         has = q;
-        no-higher = among (NoLower c g) (none-lower c fs g k) e
+        no-higher = among (NoLower c g) (none-lower c fs g k) e;
       }
   has-row (g ∷ x ∷ gs) q k = absurd k
 

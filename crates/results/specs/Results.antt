@@ -17,7 +17,6 @@ use Rattle.extensions.specs.declared.Extension.{Extension}
 use Rattle.extensions.specs.declared.Extension.the-variants.{PlayerFinish}
 use Rattle.item.specs.Records.{Content}
 use Rattle.item.specs.Contents.{byTag}
-use Rattle.item.specs.declared.Tag.{Tag}
 use Rattle.state.specs.State.{sameInt}
 use Rattle.state.specs.Reading.{Event, tickStart, tickEnd, playerNew, playerChange, playerOld, input, other}
 use Rattle.results.specs.declared.Results.{Results}
