@@ -3,3 +3,5 @@ pub mod Places
 pub mod Order
 pub mod Rows
 pub mod Turns
+pub mod Counts
+pub mod Theorems
