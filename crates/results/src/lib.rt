@@ -141,6 +141,9 @@ fn keep_row(
         if times[c] <= time {
             return;
         }
+        times[c] = time;
+        ticks[c] = tick;
+        return;
     }
     marks[c] = 1;
     times[c] = time;
