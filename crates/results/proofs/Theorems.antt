@@ -1,4 +1,5 @@
 -- The statements of specs/Laws.antt. Assumes nothing.
+use Rattle.results.specs.Results.{noResults, keep}
 use Rattle.results.specs.Laws.{
   RowsAreBests,
   AllRowsAreBests,
@@ -10,6 +11,7 @@ use Rattle.results.specs.Laws.{
   EveryFinishListed,
   RowOfClient,
   OneRowEach,
+  OneBestEach,
   RowsAreFinishes,
 }
 use Rattle.results.proofs.Lists as lists
@@ -46,6 +48,9 @@ row-of-client = rises.row-of-client
 
 pub one-row-each : OneRowEach
 one-row-each = rises.one-row-each
+
+pub one-best-each : OneBestEach
+one-best-each fs = rw (← lists.all-rows-are-bests fs) (rises.one-row-each (keep noResults fs))
 
 pub rows-are-finishes : RowsAreFinishes
 rows-are-finishes = listed.rows-are-finishes

@@ -90,6 +90,7 @@ EveryFinishListed = (f : Finish) (fs : List Finish) (at : Among f fs) → IsCoun
 
 -- ---- one row for each client
 
+-- a client's row, if it has one, is its own
 abbrev pub RowOfClient : Type 0
 RowOfClient = (l : Results) (c : ℕ) → (length (rowOf l c) ≤ 1) × AllOf (λ g. g .client ≡ pos c) (rowOf l c)
 
@@ -100,6 +101,9 @@ ClientsRise (f ∷ fs) = AllOf (λ g. ltZ (f .client) (g .client) ≡ true) fs �
 
 abbrev pub OneRowEach : Type 0
 OneRowEach = (l : Results) → ClientsRise (rowsBelow 128 l)
+
+abbrev pub OneBestEach : Type 0
+OneBestEach = (fs : List Finish) → ClientsRise (bestsBelow 128 fs)
 
 -- a row is a finish, of a client that is listed
 abbrev pub RowsAreFinishes : Type 0
