@@ -8,9 +8,9 @@ use lib.Signed.{ltZ, leZ}
 use Rattle.num.proofs.Cases.{by-bool}
 use Rattle.state.specs.State.{sameInt}
 use Rattle.results.specs.Results.{Finish, lower, bestAfter, best}
-use Rattle.results.specs.Laws.{AllOf, IsFirstLowest, FirstLowest}
+use Rattle.results.specs.Laws.{Each, IsFirstLowest, FirstLowest}
 use Rattle.results.proofs.Order.{no-higher, same-le, lt-le-lt, lt-le, same-true, same-false}
-use Rattle.results.proofs.AllOf.{all-map, all-append}
+use Rattle.results.proofs.Each.{all-map, all-append}
 
 -- ---- a finish of client c beside g
 
@@ -24,7 +24,7 @@ abbrev pub NoLower : ℕ → Finish → Finish → Type 0
 NoLower c g f = f .client ≡ pos c → leZ (g .time) (f .time) ≡ true
 
 -- none is lower than the first lowest
-pub none-lower : (c : ℕ) (fs : List Finish) (g : Finish) → IsFirstLowest c fs g → AllOf (NoLower c g) fs
+pub none-lower : (c : ℕ) (fs : List Finish) (g : Finish) → IsFirstLowest c fs g → Each (NoLower c g) fs
 none-lower c fs g k =
     let b = all-map (Higher c g) (NoLower c g) (λ f h p. lt-le (g .time) (f .time) (h p)) (k .at .before) (k .higher) in
     let a = all-append (NoLower c g) (k .at .before) (g ∷ k .at .after) b ((λ p. same-le (g .time)), k .no-lower) in
@@ -33,7 +33,7 @@ none-lower c fs g k =
 -- ---- what is kept of the finishes so far
 
 abbrev pub KeptOf : ℕ → List Finish → List Finish → Type 0
-KeptOf c fs [] = AllOf (Other c) fs
+KeptOf c fs [] = Each (Other c) fs
 KeptOf c fs (g ∷ []) = IsFirstLowest c fs g
 KeptOf c fs (g ∷ h ∷ gs) = ⊥
 
@@ -54,7 +54,7 @@ module _ (c : ℕ) (fs : List Finish) (f : Finish) where
       }
 
   -- a finish below all before it
-  comes : f .client ≡ pos c → AllOf (Higher c f) fs → IsFirstLowest c (fs ++ f ∷ []) f
+  comes : f .client ≡ pos c → Each (Higher c f) fs → IsFirstLowest c (fs ++ f ∷ []) f
   comes e h = record { at = record { before = fs; after = []; split = refl }; client = e; higher = h; no-lower = tt }
 
   -- of client c

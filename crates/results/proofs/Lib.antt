@@ -2,7 +2,7 @@ pub mod Finishes
 pub mod Order
 pub mod Rows
 pub mod Keeping
-pub mod AllOf
+pub mod Each
 pub mod Bests
 pub mod Listed
 pub mod Rises

@@ -9,8 +9,8 @@ use lib.IntN.{ℤ, pos, negsuc}
 use borrow.Author.Tests.{lt-ltb, ltb-true}
 use Rattle.num.proofs.Cases.{by-bool}
 use Rattle.results.specs.Results.{Finish, best, bestsBelow, isListed, othersIn}
-use Rattle.results.specs.Laws.{AllOf, Among, HasRow, EveryFinishListed, RowsAreFinishes}
-use Rattle.results.proofs.AllOf.{all-append, all-at}
+use Rattle.results.specs.Laws.{Each, Among, HasRow, EveryFinishListed, RowsAreFinishes}
+use Rattle.results.proofs.Each.{all-append, all-at}
 use Rattle.results.proofs.Bests.{Other, NoLower, none-lower, KeptOf, kept-best}
 
 -- ---- a finish of a client that is not listed
@@ -24,7 +24,7 @@ counts (x ∷ fs) f gs e = let h = counts fs f gs e in omega arith
 -- ---- a finish of one that is
 
 module _ (f : Finish) (fs : List Finish) (at : Among f fs) (c : ℕ) (e : f .client ≡ pos c) (h : c < 128) where
-  among : (P : Finish → Type 0) → AllOf P fs → P f
+  among : (P : Finish → Type 0) → Each P fs → P f
   among P a = all-at P (at .before) f (at .after) (rw (at .split) at a)
 
   has-row : (kept : List Finish) → best c fs ≡ kept → KeptOf c fs kept → HasRow f fs
@@ -55,12 +55,12 @@ every-finish-listed f fs at =
 abbrev IsRow : List Finish → Finish → Type 0
 IsRow fs g = Among g fs × (isListed (g .client) ≡ true)
 
-row-of : (fs : List Finish) (c : ℕ) (kept : List Finish) → c < 128 → KeptOf c fs kept → AllOf (IsRow fs) kept
+row-of : (fs : List Finish) (c : ℕ) (kept : List Finish) → c < 128 → KeptOf c fs kept → Each (IsRow fs) kept
 row-of fs c [] h k = tt
 row-of fs c (g ∷ []) h k = ((k .at, rw (k .client) (lt-ltb c 128 h)), tt)
 row-of fs c (g ∷ x ∷ gs) h k = absurd k
 
-rows-below : (fs : List Finish) (n : ℕ) → n ≤ 128 → AllOf (IsRow fs) (bestsBelow n fs)
+rows-below : (fs : List Finish) (n : ℕ) → n ≤ 128 → Each (IsRow fs) (bestsBelow n fs)
 unfolding bestsBelow
 rows-below fs zero h = tt
 rows-below fs (suc n) h =

@@ -11,9 +11,9 @@ use lib.Signed.{ltZ}
 use borrow.Author.Tests.{lt-ltb, ltb-true}
 use Rattle.num.proofs.Cases.{by-bool}
 use Rattle.results.specs.Results.{Finish, rowOf, rowsBelow}
-use Rattle.results.specs.Laws.{AllOf, RowOfClient, ClientsRise, OneRowEach}
+use Rattle.results.specs.Laws.{Each, RowOfClient, ClientsRise, OneRowEach}
 use Rattle.results.specs.declared.Results.{Results}
-use Rattle.results.proofs.AllOf.{all-map, all-append}
+use Rattle.results.proofs.Each.{all-map, all-append}
 
 pub row-of-client : RowOfClient
 row-of-client l c =
@@ -30,7 +30,7 @@ below-next : (z : ℤ) (n : ℕ) → ltZ z (pos n) ≡ true → ltZ z (pos (suc 
 below-next (pos c) n e = let h = ltb-true c n e in lt-ltb c (suc n) (omega arith)
 below-next (negsuc c) n e = refl
 
-all-below : (l : Results) (n : ℕ) → AllOf (Below (pos n)) (rowsBelow n l)
+all-below : (l : Results) (n : ℕ) → Each (Below (pos n)) (rowsBelow n l)
 unfolding rowsBelow
 all-below l zero = tt
 all-below l (suc n) =
@@ -38,7 +38,7 @@ all-below l (suc n) =
     (all-map (Below (pos n)) (Below (pos (suc n))) (λ f e. below-next (f .client) n e) (rowsBelow n l) (all-below l n))
     (all-map (λ f. f .client ≡ pos n) (Below (pos (suc n))) (λ f e. rw e (lt-ltb n (suc n) (omega arith))) (rowOf l n) (row-of-client l n .1))
 
-one-more : (fs : List Finish) (g : Finish) → ClientsRise fs → AllOf (Below (g .client)) fs → ClientsRise (fs ++ g ∷ [])
+one-more : (fs : List Finish) (g : Finish) → ClientsRise fs → Each (Below (g .client)) fs → ClientsRise (fs ++ g ∷ [])
 one-more [] g r b = (tt, tt)
 one-more (f ∷ fs) g r b =
     (all-append (λ x. ltZ (f .client) (x .client) ≡ true) fs (g ∷ []) (r .0) (b .0, tt), one-more fs g (r .1) (b .1))

@@ -24,9 +24,9 @@ use Rattle.results.specs.Results.{
 use Rattle.results.specs.declared.Results.{Results}
 
 -- what holds of each finish in a list
-abbrev pub AllOf : (Finish → Type 0) → List Finish → Type 0
-AllOf P [] = Unit {0}
-AllOf P (f ∷ fs) = P f × AllOf P fs
+abbrev pub Each : (Finish → Type 0) → List Finish → Type 0
+Each P [] = Unit {0}
+Each P (f ∷ fs) = P f × Each P fs
 
 -- a finish among others
 pub record Among (f : Finish) (fs : List Finish) : Type 0 where
@@ -64,8 +64,8 @@ FinishesGoOn =
 pub record IsFirstLowest (c : ℕ) (fs : List Finish) (g : Finish) : Type 0 where
   pub at : Among g fs
   pub client : g .client ≡ pos c
-  pub higher : AllOf (λ f. f .client ≡ pos c → ltZ (g .time) (f .time) ≡ true) (at .before)
-  pub no-lower : AllOf (λ f. f .client ≡ pos c → leZ (g .time) (f .time) ≡ true) (at .after)
+  pub higher : Each (λ f. f .client ≡ pos c → ltZ (g .time) (f .time) ≡ true) (at .before)
+  pub no-lower : Each (λ f. f .client ≡ pos c → leZ (g .time) (f .time) ≡ true) (at .after)
 
 abbrev pub FirstLowest : Type 0
 FirstLowest = (c : ℕ) (fs : List Finish) (g : Finish) (gs : List Finish) → best c fs ≡ g ∷ gs → (gs ≡ []) × IsFirstLowest c fs g
@@ -92,12 +92,12 @@ EveryFinishListed = (f : Finish) (fs : List Finish) (at : Among f fs) → IsCoun
 
 -- a client's row, if it has one, is its own
 abbrev pub RowOfClient : Type 0
-RowOfClient = (l : Results) (c : ℕ) → (length (rowOf l c) ≤ 1) × AllOf (λ g. g .client ≡ pos c) (rowOf l c)
+RowOfClient = (l : Results) (c : ℕ) → (length (rowOf l c) ≤ 1) × Each (λ g. g .client ≡ pos c) (rowOf l c)
 
 -- the clients rise from row to row, so none has two
 abbrev pub ClientsRise : List Finish → Type 0
 ClientsRise [] = Unit {0}
-ClientsRise (f ∷ fs) = AllOf (λ g. ltZ (f .client) (g .client) ≡ true) fs × ClientsRise fs
+ClientsRise (f ∷ fs) = Each (λ g. ltZ (f .client) (g .client) ≡ true) fs × ClientsRise fs
 
 abbrev pub OneRowEach : Type 0
 OneRowEach = (l : Results) → ClientsRise (rowsBelow 128 l)
@@ -107,4 +107,4 @@ OneBestEach = (fs : List Finish) → ClientsRise (bestsBelow 128 fs)
 
 -- a row is a finish, of a client that is listed
 abbrev pub RowsAreFinishes : Type 0
-RowsAreFinishes = (fs : List Finish) → AllOf (λ g. Among g fs × (isListed (g .client) ≡ true)) (bestsBelow 128 fs)
+RowsAreFinishes = (fs : List Finish) → Each (λ g. Among g fs × (isListed (g .client) ≡ true)) (bestsBelow 128 fs)
