@@ -1,0 +1,7 @@
+pub mod Fronts
+pub mod Places
+pub mod Order
+pub mod Rows
+pub mod Turns
+pub mod Counts
+pub mod Theorems
