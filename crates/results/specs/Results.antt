@@ -9,16 +9,16 @@ use lib.IntN.{ℤ, pos, negsuc}
 use lib.Signed.{ltZ}
 use Rattle.refusal.specs.declared.Refusal.the-variants.{BadState}
 use Rattle.packer.specs.declared.Part.{Part}
-use Rattle.fields.specs.Views.{zeros, numbers}
+use Rattle.fields.specs.Fields.{num, onNum}
+use Rattle.fields.specs.Views.{zeros}
 use Rattle.kinds.specs.Magic.{sameBytes}
 use Rattle.extensions.specs.Extensions.{idAt}
 use Rattle.extensions.specs.declared.Extension.{Extension}
 use Rattle.extensions.specs.declared.Extension.the-variants.{PlayerFinish}
 use Rattle.item.specs.Records.{Content}
 use Rattle.item.specs.Contents.{byTag}
-use Rattle.item.specs.declared.Tag.{Tag}
 use Rattle.state.specs.State.{sameInt}
-use Rattle.state.specs.Reading.{Event, tickStart, tickEnd, playerNew, playerChange, playerOld, input, other, first, second}
+use Rattle.state.specs.Reading.{Event, tickStart, tickEnd, playerNew, playerChange, playerOld, input, other}
 use Rattle.results.specs.declared.Results.{Results}
 use Rattle.results.specs.declared.Counted.{Counted}
 use Rattle.results.specs.declared.Counted.the-variants.{Others, Refused}
@@ -38,10 +38,13 @@ finish c t k = record { client = c; time = t; tick = k }
 unfoldable pub isPlayerFinish : Extension → Bool
 isPlayerFinish e = sameBytes (idAt e) (idAt PlayerFinish)
 
+-- a record's number at a place
+abbrev pub numberAt : ℕ → Content Part → ℤ
+numberAt i r = onNum (pos 0) (λ z. z) (getD (r .values) i (num (pos 0)))
+
 -- a PlayerFinish record (client, time), in tick k
 abbrev pub finishIn : ℤ → Content Part → List Finish
-finishIn k r =
-    cond (byTag (λ kind. false) isPlayerFinish false (r .tag)) (finish (first (numbers (r .values))) (second (numbers (r .values))) k ∷ []) []
+finishIn k r = cond (byTag (λ kind. false) isPlayerFinish false (r .tag)) (finish (numberAt 0 r) (numberAt 1 r) k ∷ []) []
 
 -- the finish that an event is, if tick k is open
 abbrev pub finishOf : ℤ → Event → List Finish
@@ -62,6 +65,11 @@ tickAfter k (playerChange c x y old-x old-y) = k
 tickAfter k (playerOld c x y) = k
 tickAfter k (input c former) = k
 tickAfter k (other r) = k
+
+-- the tick that is open behind events
+unfoldable pub ticksAfter : ℤ → List Event → ℤ
+ticksAfter k [] = k
+ticksAfter k (e ∷ es) = ticksAfter (tickAfter k e) es
 
 -- the finishes among events, the first first
 unfoldable pub finishesIn : ℤ → List Event → List Finish
