@@ -1,10 +1,9 @@
 -- `result_lines::put_number` meets its contract. The loop's invariant: the bytes from a place on are the last digits and the line's end.
 -- Assumes nothing.
-use Prim.Native.Nat.{_+_, _-_}
-use mathlib.Core.Path.{_≡_, refl}
+use mathlib.Core.Path.{refl}
 use native.Mathlib.Omega.{arith}
 use borrow.Author.Needs.{needs}
-use lib.ListN.{length, length-set, drop, set}
+use lib.ListN.{length-set}
 use Rattle.lines.specs.Lines.{decimalDigits, newline}
 use Rattle.result_lines.proofs.Number.{Behind, one-more, first-one, number-le}
 use Rattle.result_lines.proofs.Puts.{raw-put}

@@ -1,9 +1,6 @@
 -- `result_lines::put_others` meets its contract. Assumes nothing.
-use Prim.Native.Nat.{_+_, _≤_}
-use mathlib.Core.List.{_++_}
 use native.Mathlib.Omega.{arith}
 use borrow.Author.Needs.{needs}
-use lib.ListN.{length}
 use Rattle.packer.proofs.Joined.{two-puts}
 use Rattle.lines.specs.Lines.{decimalDigits, newline, text}
 use Rattle.lines.specs.steps.Puts.{PutsText}
