@@ -24,6 +24,7 @@ pub fn inputs() -> Vec<Vec<u8>> {
         times(),
         equal(),
         ticks(),
+        lowest(),
         payloads(),
         identifiers(),
         refusals::bodies(),
@@ -114,9 +115,12 @@ fn equal() -> Vec<Body> {
     list
 }
 
-/// The tick is the one that is open at the record.
+fn one(body: Body) -> Body {
+    body.player_finish(3, 50)
+}
+
+/// The tick is the one that is open at the record: ticks that TickSkips and players end. The clients of finishes end none.
 fn ticks() -> Vec<Body> {
-    let one = |body: Body| body.player_finish(3, 50);
     vec![
         one(new()).finish(),
         one(new().skip(0)).finish(),
@@ -125,7 +129,6 @@ fn ticks() -> Vec<Body> {
         one(new().join(0).skip(5).skip(5)).finish(),
         one(one(new()).skip(0)).finish(),
         one(one(new().skip(7))).finish(),
-        // ticks that players end: the clients of finishes end none
         one(new().player_new(5, 0, 0).player_diff(5, 1, 1)).finish(),
         one(new().player_new(5, 0, 0)).player_new(6, 0, 0).finish(),
         one(new().player_new(2, 0, 0)).player_diff(2, 1, 1).finish(),
@@ -145,14 +148,18 @@ fn ticks() -> Vec<Body> {
             .drop(3, b"")
             .player_finish(3, 8)
             .finish(),
-        // the tick of the lowest, not of the first or the last
+    ]
+}
+
+/// The tick of the lowest, not of the first or the last; the largest tick; finishes behind the end.
+fn lowest() -> Vec<Body> {
+    vec![
         in_ticks(&[(3, 9), (3, 7), (3, 8)]).finish(),
         in_ticks(&[(3, 7), (3, 9), (3, 8)]).finish(),
         in_ticks(&[(3, 9), (3, 8), (3, 7)]).finish(),
         one(new().skip(MOST - 1)).finish(),
         one(one(new()).skip(MOST - 1)).finish(),
         one(new().skip(MOST - 1)).player_finish(3, 49).finish(),
-        // behind the end
         one(new()).finish().player_finish(3, 1).finish(),
         one(new()).finish().raw(&[0x80]),
     ]
