@@ -1,5 +1,5 @@
 //! What the program ladder must print. libtw2 gives the records and keeps no list, so the list is a model beside it, written
-//! from the text of the wish and made the plain way: all finishes are gathered, then each client's lowest is looked for.
+//! from docs/FORMAT.md and made the plain way: all finishes are gathered, then each client's lowest is looked for.
 
 use crate::expected::read;
 use crate::expected::Left;

@@ -1,4 +1,4 @@
-//! Lists worked out by hand from the text of the format and of the wish.
+//! Lists worked out by hand from docs/FORMAT.md.
 
 use super::ladder;
 use crate::records::bytes;
