@@ -1,0 +1,4 @@
+pub mod Finishes
+pub mod Order
+pub mod Rows
+pub mod Keeping

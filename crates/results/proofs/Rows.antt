@@ -1,0 +1,21 @@
+-- A finish by the tests that the code makes: whether the client has a row, and whether its time is lower. Assumes nothing.
+use Prim.Native.Nat.{ℕ, _<_}
+use mathlib.Core.Path.{_≡_, refl}
+use mathlib.Core.Bool.{true, false}
+use lib.ListN.{getD}
+use lib.IntN.{ℤ, pos}
+use lib.Signed.{leZ}
+use borrow.Author.Tests.{lt-ltb, ne-eqb}
+use Rattle.results.specs.Results.{Finish, withRow, keepAt}
+use Rattle.results.specs.declared.Results.{Results}
+use Rattle.results.proofs.Order.{not-lower, is-lower}
+
+module _ (l : Results) (c : ℕ) (f : Finish) (h : c < 128) where
+  pub row-stays : getD (l .marks) c 0 ≡ 1 → leZ (getD (l .times) c (pos 0)) (f .time) ≡ true → l ≡ keepAt l (pos c) f
+  row-stays m t = rw (lt-ltb c 128 h, m, not-lower (getD (l .times) c (pos 0)) (f .time) t)
+
+  pub first-row : (getD (l .marks) c 0 ≡ 1 → ⊥) → withRow l c f ≡ keepAt l (pos c) f
+  first-row m = rw (lt-ltb c 128 h, ne-eqb (getD (l .marks) c 0) 1 m)
+
+  pub lower-row : getD (l .marks) c 0 ≡ 1 → leZ (getD (l .times) c (pos 0)) (f .time) ≡ false → withRow l c f ≡ keepAt l (pos c) f
+  lower-row m t = rw (lt-ltb c 128 h, m, is-lower (getD (l .times) c (pos 0)) (f .time) t)
