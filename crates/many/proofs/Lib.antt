@@ -1,4 +1,5 @@
 pub mod Slims
+pub mod OneCall
 pub mod Runs
 pub mod Turns
 pub mod Edges

@@ -5,7 +5,7 @@ use mathlib.Core.Bool.{Bool}
 use mathlib.Core.List.{List}
 use native.Mathlib.Omega.{arith}
 use lib.ListN.{length, take, drop, length-drop}
-use lib.Seq.{take-all, drop-drop}
+use lib.Seq.{drop-drop}
 use lib.IntN.{ℤ}
 use Rattle.refusal.specs.declared.Refusal.{Refusal}
 use Rattle.state.specs.State.{Memory}
@@ -26,7 +26,8 @@ use Rattle.many.specs.Many.{ManyIs}
 use Rattle.rows.specs.steps.Stores.{EventPut}
 use Rattle.many.specs.steps.Stores.{Room}
 use Rattle.many.specs.declared.Stop.the-variants as stops
-use Rattle.many.proofs.Runs.{readerOf, Behind, begun, ended, stays-sound, uses, ends-more, ends-finish, ends-refused, goes-on}
+use Rattle.many.proofs.OneCall.{rest-is, readerOf, stays-sound, uses, ends-more, ends-finish, ends-refused}
+use Rattle.many.proofs.Runs.{Behind, begun, ended, goes-on}
 
 pub record Going (run : Run) (room : ℕ) (w : List ℕ) (last : Bool) (rows₀ tens₀ : List ℤ) (s : Scalars) (m : Memory) (count used : ℕ)
     (rows₁ tens₁ : List ℤ) : Type 0
@@ -50,10 +51,6 @@ module _ (room : ℕ) (w : List ℕ) (last : Bool) (rows tens : List ℤ) (s : S
         sound = sound;
         behind = rw e (begun _ rows tens);
       }
-
--- the rest of a window, as the code takes it
-rest-is : (w : List ℕ) (a : ℕ) → take (length w - a) (drop a w) ≡ drop a w
-rest-is w a = take-all (length w - a) (drop a w) (omega (arith, length-drop a w))
 
 module _ {run : Run} {room : ℕ} {w : List ℕ} {last : Bool} {rows₀ tens₀ : List ℤ} {s : Scalars} {m : Memory} {count used : ℕ}
     {rows₁ tens₁ : List ℤ} (g : Going run room w last rows₀ tens₀ s m count used rows₁ tens₁)
