@@ -19,7 +19,13 @@ use Rattle.ranking.specs.Ranking.{Ranks}
 use Rattle.listing.specs.Listing.{ListRun, someSeen, listRun, saidRun}
 use Rattle.listing.specs.declared.ListRead.{ListRead}
 use Rattle.listed.specs.Listed.{bodyRun, bodyFinishes, ListsBody}
+use Rattle.listed.specs.Laws.{FinishesInBytes}
 use Rattle.listed.proofs.Lengths.{run-long, others-fewer}
+
+pub finishes-in-bytes : FinishesInBytes
+finishes-in-bytes v body =
+    let r = emptyReader v in
+    omega (arith, run-long (allOf true) (enough body) r body (r .scalars .tick), run-within (allOf true) (λ b. omega arith) (enough body) r body)
 
 module _ (v : Version) (body : List ℕ) (h : length body ≤ 18446744073709551615) where
   -- the count can rise that far
@@ -27,7 +33,7 @@ module _ (v : Version) (body : List ℕ) (h : length body ≤ 184467440737095516
   count-fits =
       let fs = bodyFinishes v body in
       le-leb (keep noResults fs .others) 18446744073709551615
-      (omega (arith, count-is-others fs, others-fewer fs, run-long (allOf true) (enough body) (emptyReader v) body (emptyReader v .scalars .tick), run-within (allOf true) (λ b. omega arith) (enough body) (emptyReader v) body))
+      (omega (arith, count-is-others fs, others-fewer fs, finishes-in-bytes v body))
 
   module _ (read : ListRead) (said : saidRun read ≡ listRun noResults (emptyReader v) (bodyRun v body)) where
     answer : saidRun read ≡ record { halt = bodyRun v body .halt; gave = someSeen (bodyRun v body .seen); used = bodyRun v body .used; list = keep noResults (bodyFinishes v body); reader = bodyRun v body .reader }
