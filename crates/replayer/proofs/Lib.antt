@@ -1,5 +1,2 @@
 pub mod OneTurn
-pub mod Whole
-pub mod Bound
-pub mod EnoughTurns
-pub mod Rounds
+pub mod Theorems

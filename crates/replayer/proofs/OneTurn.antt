@@ -2,7 +2,7 @@
 use Prim.Native.Nat.{ℕ, zero, suc, _+_, _*_, _≤_, _<_, min}
 use mathlib.Core.Path.{_≡_, refl, sym, _∙_, ap}
 use mathlib.Core.Bool.{Bool, true, false}
-use mathlib.Core.List.{List, [], _∷_, _++_}
+use mathlib.Core.List.{List, [], _∷_, _++_, flatMap}
 use native.Mathlib.Omega.{arith}
 use borrow.Author.Tests.{le-leb, leb-true, leb-false}
 use lib.Dec.{leb}
@@ -30,7 +30,8 @@ use Rattle.many.proofs.Edges.{with-room}
 use Rattle.lines.specs.Lines.{longest, refusedWord}
 use Rattle.lines.specs.steps.Puts.{PutsText}
 use Rattle.lines.proofs.Texts.{line-fits}
-use Rattle.replayer.specs.Replay.{full, windowOf, isShort, isLastWindow, ends, endingOf, wants, runText, turnRoom, turnRun, noTurn, Turns}
+use Rattle.windows.specs.Windows.{full, windowOf, isShort, isLastWindow, turnRun, ends, wants}
+use Rattle.replayer.specs.Replay.{endingOf, runText, turnRoom, noTurn, Turns}
 
 -- the window's end is no further than the bytes
 take-least : (l : List ℕ) (c : ℕ) → take (min (length l) c) l ≡ take c l
@@ -62,7 +63,7 @@ module _ (reader : Reader) (bytes : List ℕ) (input-ended : Bool) (rows tens : 
 
   pub nothing : n ≡ 0 → Turns bytes (turnRun (turnRoom rows tens out) reader bytes input-ended) rows tens out
       (noTurn reader) rows tens out
-  unfolding along textOf rowsFrom tensFrom
+  unfolding along flatMap rowsFrom tensFrom
   nothing e =
       let z : turnRoom rows tens out ≡ 0 = sym is ∙ e in
       rw z (record { left = refl; used = refl; filled = refl; ended = refl; wants = refl; out = refl; rows = refl; tens = refl })

@@ -1,3 +1,2 @@
 pub mod Replay
 pub mod Laws
-pub mod Rounds

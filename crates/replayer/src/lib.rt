@@ -1,12 +1,12 @@
 // The replay program's work: reading calls on the bytes at hand, and the lines of their events.
 ghost use mathlib.Core.Path.{_≡_};
-ghost use mathlib.Core.Bool.{false, cond};
 ghost use Prim.Native.Nat.{_+_, _-_, _/_, _≤_, min};
 ghost use lib.ListN.{length};
 ghost use Rattle.lines.specs.Lines.{longest};
 ghost use Rattle.lines.specs.steps.Puts.{PutsText};
 ghost use Rattle.many.specs.Many.{haltOf};
-ghost use Rattle.replayer.specs.Replay.{endingOf, ends, tooLong, wants, turnRoom, turnRun, noTurn, Turns};
+ghost use Rattle.windows.specs.Windows.{turnRun};
+ghost use Rattle.replayer.specs.Replay.{endingOf, turnRoom, noTurn, Turns};
 use lines::Ending;
 use many::Stop;
 use state::Reader;
@@ -25,16 +25,6 @@ pub struct Turned {
     pub wants: bool,
 }
 
-// Whether a window, short or full, that answers more after so many events is too long.
-fn is_too_long(short: bool, count: usize) -> bool
-    ensures { λ r. ⌜ r ≡ tooLong short count ⌝ }
-{
-    if short {
-        return false;
-    }
-    count == 0
-}
-
 // The last line, if there is one: the place past it.
 fn put_ending(short: bool, stop: Stop, count: usize, out: &mut [u8], at: usize) -> usize
     requires { ⌜ at + longest ≤ length (now out) ⌝ }
@@ -43,7 +33,7 @@ fn put_ending(short: bool, stop: Stop, count: usize, out: &mut [u8], at: usize) 
     match stop {
         Stop::Full => at,
         Stop::More => {
-            if is_too_long(short, count) {
+            if windows::is_too_long(short, count) {
                 return row_lines::past_or(lines::write_last(Ending::TooLong, out, at), at);
             }
             at
@@ -53,30 +43,6 @@ fn put_ending(short: bool, stop: Stop, count: usize, out: &mut [u8], at: usize) 
             lines::write_last(Ending::Refused(refusal), out, at),
             at,
         ),
-    }
-}
-
-// Whether there is one.
-fn has_ending(short: bool, stop: Stop, count: usize) -> bool
-    ensures { λ r. ⌜ r ≡ ends short (haltOf stop) count ⌝ }
-{
-    match stop {
-        Stop::Full => false,
-        Stop::More => is_too_long(short, count),
-        Stop::Finish => true,
-        Stop::Refused(_) => true,
-    }
-}
-
-// Whether a short window has answered more.
-fn wants_more(short: bool, stop: Stop) -> bool
-    ensures { λ r. ⌜ r ≡ wants short (haltOf stop) ⌝ }
-{
-    match stop {
-        Stop::Full => false,
-        Stop::More => short,
-        Stop::Finish => false,
-        Stop::Refused(_) => false,
     }
 }
 
@@ -104,16 +70,6 @@ fn event_room(rows: usize, tens: usize, out: usize) -> usize
     ensures { λ r. ⌜ r ≡ min (min (rows / 8) (tens / 20)) ((out - longest) / longest) ⌝ }
 {
     least(least(rows / 8, tens / 20), line_room(out))
-}
-
-// Only a short window can be the last, and only where the input has ended.
-fn is_last(ended: bool, short: bool) -> bool
-    ensures { λ r. ⌜ r ≡ cond ended short false ⌝ }
-{
-    if ended {
-        return short;
-    }
-    false
 }
 
 // Where there is no room for an event.
@@ -152,7 +108,7 @@ pub fn turn(
     let many = many::read_many(
         reader,
         &bytes[..end],
-        is_last(ended, short),
+        windows::is_last(ended, short),
         &mut rows[..row_end],
         &mut tens[..ten_end],
     );
@@ -164,7 +120,7 @@ pub fn turn(
         reader: left,
         used: many.used,
         filled: put_ending(short, stop, count, out, at),
-        ended: has_ending(short, stop, count),
-        wants: wants_more(short, stop),
+        ended: windows::has_ending(short, stop, count),
+        wants: windows::wants_more(short, stop),
     }
 }

@@ -1,7 +1,7 @@
 -- Lines put one behind the other: what is still to come. Assumes nothing.
 use Prim.Native.Nat.{ℕ, suc, _+_, _*_, _≤_, _<_}
 use mathlib.Core.Path.{_≡_, refl, _∙_}
-use mathlib.Core.List.{List, [], _∷_, _++_}
+use mathlib.Core.List.{List, [], _∷_, _++_, flatMap}
 use native.Mathlib.Omega.{arith}
 use native.Mathlib.Numerals.{add-one}
 use lib.ListN.{length, length-append}
@@ -21,7 +21,7 @@ lineIs x = lineOf (x .event) (x .ten)
 
 module _ (rows tens : List ℤ) where
   pub text-le : (i : ℕ) (ys : List Seen) → AllInRows i ys rows tens → length (textOf ys) ≤ longest * length ys
-  unfolding textOf AllInRows
+  unfolding flatMap AllInRows
   text-le i [] t = omega arith
   text-le i (y ∷ ys) t =
       omega (arith, length-append (lineIs y) (textOf ys), line-le (y .ten) (t .0 .ten) (y .event), text-le (suc i) ys (t .1))
@@ -49,7 +49,7 @@ module _ (rows tens : List ℤ) where
     one-more : (ys : List Seen) → AllInRows i ys rows tens → i + length ys ≡ count → at ≤ longest * i
         → at + length (textOf ys) ≡ length (textOf xs) → written out at (textOf ys) ≡ written out₀ 0 (textOf xs)
         → Left xs count out₀ (i + 1) next end
-    unfolding AllInRows textOf
+    unfolding AllInRows flatMap
     one-more [] t s n p b = absurd (omega arith)
     one-more (y ∷ ys) t s n p b =
         let q = puts y (t .0) (omega arith) in
@@ -73,7 +73,7 @@ module _ (rows tens : List ℤ) where
       (same : length out ≡ length out₀) (over : count ≤ i) where
     none-more : (ys : List Seen) → i + length ys ≡ count → at ≤ longest * i → at + length (textOf ys) ≡ length (textOf xs)
         → written out at (textOf ys) ≡ written out₀ 0 (textOf xs) → PutsText out₀ 0 (textOf xs) at out
-    unfolding textOf
+    unfolding flatMap
     none-more [] s n p b = (omega arith, nothing-put out at (omega arith) ∙ b)
     none-more (y ∷ ys) s n p b = absurd (omega arith)
 

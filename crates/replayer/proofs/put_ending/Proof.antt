@@ -14,7 +14,8 @@ use Rattle.lines.specs.declared.Ending.the-variants.{TooLong}
 use Rattle.lines.proofs.Texts.{same-text}
 use Rattle.calls.specs.Along.{wantsMore}
 use Rattle.row_lines.specs.steps.RowLines.{pastOr}
-use Rattle.replayer.specs.Replay.{tooLong, endingOf}
+use Rattle.windows.specs.Windows.{tooLong}
+use Rattle.replayer.specs.Replay.{endingOf}
 use Rattle.row_lines.proofs.FromRows.{puts-of}
 use Rattle.replayer.proofs.put_ending.Statement.{statement}
 use Rattle.replayer.proofs.put_ending.Tie as tie

@@ -1,7 +1,7 @@
--- `replayer::has_ending` meets its contract. Assumes nothing.
+-- `windows::has_ending` meets its contract. Assumes nothing.
 use borrow.Author.Needs.{needs}
-use Rattle.replayer.proofs.has_ending.Statement.{statement}
-use Rattle.replayer.proofs.has_ending.Tie as tie
+use Rattle.windows.proofs.has_ending.Statement.{statement}
+use Rattle.windows.proofs.has_ending.Tie as tie
 
 returns-2 : tie.Need-returns-2
 returns-2 c = rw (c .before .enum-told2 .given .1) (c .is-too-long .ensures)

@@ -1,4 +1,4 @@
--- Enough turns end the replay. Assumes nothing.
+-- Enough turns end the reading. Assumes nothing.
 use Prim.Native.Nat.{ℕ, zero, suc, _+_, _*_, _-_, _≤_, _<_}
 use mathlib.Core.Path.{_≡_, refl, sym, ap}
 use mathlib.Core.Bool.{Bool, true, false, cond, false≢true}
@@ -11,8 +11,8 @@ use Rattle.state.specs.Reading.{Event, readCall, readerAfter}
 use Rattle.state.specs.declared.Reader.{Reader}
 use Rattle.calls.specs.Calls.{isPending, Seen, seenBy}
 use Rattle.calls.specs.Along.{along, Halt, isFull, wantsMore, finishes, isRefused, Run, before, onSaid, calls}
-use Rattle.replayer.specs.Replay.{full, windowOf, isShort, isLastWindow, ends}
-use Rattle.replayer.specs.Laws.{Arrived, some, all, atHand, hasEnded, Turn, runOf, short, over, turnsEnd, haveAll, EnoughTurns}
+use Rattle.windows.specs.Windows.{full, windowOf, isShort, isLastWindow, ends}
+use Rattle.windows.specs.Turns.{Arrived, some, all, atHand, hasEnded, Turn, runOf, short, over, turnsEnd, haveAll, EnoughTurns}
 use Rattle.calls.proofs.Singles.{uses-within, more-leaves}
 use Rattle.calls.proofs.Ranks.{rank, rank-le, call-falls}
 
@@ -54,7 +54,7 @@ run-falls (suc n) r w last =
     an-event (run .halt) (rank (r .scalars)) (rank (t .scalars)) (length w) m (seenBy (isPending (r .scalars .pending)) w t e m) run f u refl (length (drop m w))
     (omega (arith, length-drop m w)) (run-falls n (readerAfter t) (drop m w) last))
 
--- so no more is left after a turn that does not end the replay
+-- so no more is left after a turn that does not end the reading
 pub left-after : (s : Bool) (h : Halt) (b size : ℕ) (run : Run) → ends s h (length (run .seen)) ≡ false → Left h b run size
     → (rank (run .reader .scalars) + length (run .seen) ≤ b + 5 * run .used) × (run .used ≤ size)
 left-after s isFull b size run e l = l
@@ -83,7 +83,7 @@ falls-by-events t r body o =
     sum-le (run .used) (length body) (rank (r .scalars)) (rank (run .reader .scalars)) (length (drop (run .used) body)) (length (run .seen))
     (omega (arith, p .1, hand-le (t .arrived) body)) (p .0) (length-drop (run .used) body)
 
--- ---- a turn that has all the bytes and does not end the replay gives an event
+-- ---- a turn that has all the bytes and does not end the reading gives an event
 
 some-event : (s : Bool) (a : Said Event) → (a ≡ more → s ≡ false) → (x : Event → ℕ → Seen) (next : Event → ℕ → Run) (left : Reader)
     → ends s (onSaid a (λ e m. before (x e m) (next e m)) left .halt) (length (onSaid a (λ e m. before (x e m) (next e m)) left .seen)) ≡ false

@@ -1,4 +1,4 @@
--- `replayer::is_too_long` meets its contract. Assumes nothing.
+-- `windows::is_too_long` meets its contract. Assumes nothing.
 use Prim.Native.Nat.{ℕ, zero, suc}
 use mathlib.Core.Path.{_≡_, refl}
 use mathlib.Core.Bool.{false}
@@ -6,9 +6,9 @@ use native.Mathlib.Omega.{arith}
 use borrow.Author.Needs.{needs}
 use borrow.Author.Tests.{ne-eqb}
 use lib.Dec.{eqb}
-use Rattle.replayer.specs.Replay.{tooLong}
-use Rattle.replayer.proofs.is_too_long.Statement.{statement}
-use Rattle.replayer.proofs.is_too_long.Tie as tie
+use Rattle.windows.specs.Windows.{tooLong}
+use Rattle.windows.proofs.is_too_long.Statement.{statement}
+use Rattle.windows.proofs.is_too_long.Tie as tie
 
 none : (n : ℕ) → eqb n 0 ≡ tooLong false n
 none zero = refl
