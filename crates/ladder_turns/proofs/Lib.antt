@@ -1,0 +1,4 @@
+pub mod Ticks
+pub mod Climb
+pub mod Rounds
+pub mod Theorems
