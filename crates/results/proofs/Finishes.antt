@@ -3,13 +3,11 @@ use mathlib.Core.Path.{_≡_, refl, sym, ap, _∙_}
 use mathlib.Core.Bool.{cond, false}
 use mathlib.Core.List.{List, [], _∷_}
 use lib.IntN.{ℤ}
-use Rattle.packer.specs.declared.Part.{Part}
 use Rattle.kinds.specs.Magic.{sameBytes}
 use Rattle.shapes.specs.declared.Fields.{Fields}
 use Rattle.extensions.specs.Extensions.{all, idAt, extensionRow, payloadAt}
 use Rattle.extensions.specs.declared.Extension.{Extension}
 use Rattle.extensions.proofs.Each.{each}
-use Rattle.item.specs.Records.{Content}
 use Rattle.item.specs.Contents.{itemOf, byTag}
 use Rattle.item.specs.steps.Taken.{fromFields, TakenApart}
 use Rattle.item.specs.declared.Tag.{Tag}

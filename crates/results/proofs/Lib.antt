@@ -2,3 +2,9 @@ pub mod Finishes
 pub mod Order
 pub mod Rows
 pub mod Keeping
+pub mod AllOf
+pub mod Bests
+pub mod Listed
+pub mod Rises
+pub mod Lists
+pub mod Theorems

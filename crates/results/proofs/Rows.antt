@@ -1,9 +1,9 @@
 -- A finish by the tests that the code makes: whether the client has a row, and whether its time is lower. Assumes nothing.
 use Prim.Native.Nat.{ℕ, _<_}
-use mathlib.Core.Path.{_≡_, refl}
+use mathlib.Core.Path.{_≡_}
 use mathlib.Core.Bool.{true, false}
 use lib.ListN.{getD}
-use lib.IntN.{ℤ, pos}
+use lib.IntN.{pos}
 use lib.Signed.{leZ}
 use borrow.Author.Tests.{lt-ltb, ne-eqb}
 use Rattle.results.specs.Results.{Finish, withRow, keepAt}

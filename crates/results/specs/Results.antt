@@ -17,7 +17,6 @@ use Rattle.extensions.specs.declared.Extension.{Extension}
 use Rattle.extensions.specs.declared.Extension.the-variants.{PlayerFinish}
 use Rattle.item.specs.Records.{Content}
 use Rattle.item.specs.Contents.{byTag}
-use Rattle.item.specs.declared.Tag.{Tag}
 use Rattle.state.specs.State.{sameInt}
 use Rattle.state.specs.Reading.{Event, tickStart, tickEnd, playerNew, playerChange, playerOld, input, other}
 use Rattle.results.specs.declared.Results.{Results}
@@ -66,6 +65,11 @@ tickAfter k (playerChange c x y old-x old-y) = k
 tickAfter k (playerOld c x y) = k
 tickAfter k (input c former) = k
 tickAfter k (other r) = k
+
+-- the tick that is open behind events
+unfoldable pub ticksAfter : ℤ → List Event → ℤ
+ticksAfter k [] = k
+ticksAfter k (e ∷ es) = ticksAfter (tickAfter k e) es
 
 -- the finishes among events, the first first
 unfoldable pub finishesIn : ℤ → List Event → List Finish

@@ -1,14 +1,14 @@
 -- `results::finish_in` meets its contract. Assumes nothing.
 use mathlib.Core.Path.{_≡_, sym, ap, _∙_}
 use mathlib.Core.Bool.{Bool, true, false, cond}
-use mathlib.Core.List.{List, [], _∷_}
+use mathlib.Core.List.{[], _∷_}
 use lib.IntN.{ℤ}
 use borrow.Author.Needs.{needs}
 use mir.Syntax.{w32}
 use mir.Val.{toZ, ofZ}
 use Rattle.item.specs.Contents.{itemOf}
 use Rattle.item.specs.declared.Tag.the-variants.{Plain, Named, Other}
-use Rattle.results.specs.Results.{Finish, finish, finishIn}
+use Rattle.results.specs.Results.{finish, finishIn}
 use Rattle.results.proofs.Finishes.{finish-told}
 use Rattle.results.proofs.finish_in.Statement.{statement}
 use Rattle.results.proofs.finish_in.Tie as tie

@@ -1,11 +1,10 @@
 -- `results::finish_of` meets its contract: of each event what the definition says. Assumes nothing.
 use mathlib.Core.Path.{_≡_, sym, ap, _∙_}
-use mathlib.Core.List.{List}
 use lib.IntN.{ℤ}
 use borrow.Author.Needs.{needs}
 use Rattle.state.specs.Views.{eventIs}
 use Rattle.state.specs.declared.Event as code
-use Rattle.results.specs.Results.{Finish, finishOf}
+use Rattle.results.specs.Results.{finishOf}
 use Rattle.results.proofs.finish_of.Statement.{statement}
 use Rattle.results.proofs.finish_of.Tie as tie
 

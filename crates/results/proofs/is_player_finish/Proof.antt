@@ -1,6 +1,5 @@
 -- `results::is_player_finish` meets its contract: each arm compares two identifiers. Assumes nothing.
-use mathlib.Core.Path.{_≡_, refl, sym, ap}
-use mathlib.Core.Bool.{Bool}
+use mathlib.Core.Path.{_≡_, sym, ap}
 use borrow.Author.Needs.{needs}
 use Rattle.kinds.specs.Magic.{sameBytes}
 use Rattle.extensions.specs.Extensions.{idAt, extensionRow}

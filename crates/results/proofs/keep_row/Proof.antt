@@ -1,13 +1,8 @@
 -- `results::keep_row` meets its contract. Assumes nothing.
-use mathlib.Core.Path.{_≡_}
 use mathlib.Core.Logic.{⊎-elim}
-use mathlib.Core.Bool.{Bool}
 use borrow.Author.Needs.{needs}
 use lib.ListN.{getD}
 use lib.IntN.{pos}
-use lib.Signed.{leZ}
-use mir.Syntax.{w32}
-use mir.Val.{toZ, ofZ}
 use Rattle.state.proofs.Numbers.{back, element}
 use Rattle.results.specs.Results.{finish, resultsWith}
 use Rattle.results.proofs.Rows.{row-stays, first-row, lower-row}
