@@ -1,48 +1,22 @@
 -- A list that takes what is told of a body, one event after the other. Assumes nothing.
-use Prim.Native.Nat.{ℕ, _+_, _≤_}
+use Prim.Native.Nat.{_≤_}
 use mathlib.Core.Path.{_≡_, refl, sym, ap, _∙_}
-use mathlib.Core.Bool.{Bool, true, false, cond}
+use mathlib.Core.Bool.{true}
 use mathlib.Core.List.{List, [], _∷_, _++_}
 use native.Mathlib.Omega.{arith}
 use borrow.Author.Tests.{leb-true, le-leb}
-use lib.Dec.{ltb}
-use lib.IntN.{ℤ, pos, negsuc}
+use lib.IntN.{ℤ}
 use Rattle.state.specs.Reading.{Event}
 use Rattle.calls.specs.Calls.{Seen}
 use Rattle.windows.specs.Telling.{Told, anEvent, theEnd, eventsTold}
-use Rattle.results.specs.Results.{Finish, finishOf, tickAfter, finishesIn, isLower, rowOf, withRow, keepAt, keep, fits}
+use Rattle.results.specs.Results.{finishOf, tickAfter, ticksAfter, finishesIn, keep, fits}
 use Rattle.results.specs.declared.Results.{Results}
+use Rattle.results.proofs.Theorems.{count-rises, keeps-on}
 use Rattle.listing.specs.Listing.{eventsOf}
 use Rattle.ladder_turns.specs.Ladder.{goesOn, endsAs}
 use Rattle.ladder_turns.specs.Rounds.{Climbed}
-use Rattle.ladder_turns.proofs.Ticks.{ticksAfter}
 
--- ---- the count never falls
-
-with-row : (b : Bool) (l : Results) (c : ℕ) (f : Finish) → l .others ≤ cond b (withRow l c f) l .others
-with-row true l c f = omega arith
-with-row false l c f = omega arith
-
-listed-or-not : (b d : Bool) (l : Results) (c : ℕ) (f : Finish)
-    → l .others ≤ cond b (cond d (withRow l c f) l) (record { marks = l .marks; times = l .times; ticks = l .ticks; others = l .others + 1 }) .others
-listed-or-not true d l c f = with-row d l c f
-listed-or-not false d l c f = omega arith
-
-one-rises : (l : Results) (z : ℤ) (f : Finish) → l .others ≤ keepAt l z f .others
-one-rises l (pos c) f = listed-or-not (ltb c 128) (isLower (rowOf l c) f) l c f
-one-rises l (negsuc c) f = omega arith
-
-pub keep-rises : (l : Results) (fs : List Finish) → l .others ≤ keep l fs .others
-unfolding keep
-keep-rises l [] = omega arith
-keep-rises l (f ∷ fs) = omega (arith, one-rises l (f .client) f, keep-rises (keepAt l (f .client) f) fs)
-
-pub keep-append : (l : Results) (fs gs : List Finish) → keep l (fs ++ gs) ≡ keep (keep l fs) gs
-unfolding keep
-keep-append l [] gs = refl
-keep-append l (f ∷ fs) gs = keep-append (keepAt l (f .client) f) fs gs
-
--- ---- what is told, from an open tick and a list on
+-- from an open tick and a list on
 
 unfoldable pub climb : ℤ → Results → List Told → Climbed
 climb k l [] = record { list = l; next = goesOn }
@@ -53,7 +27,7 @@ pub climb-rises : (k : ℤ) (l : Results) (ts : List Told) → l .others ≤ cli
 unfolding climb
 climb-rises k l [] = omega arith
 climb-rises k l (anEvent e ∷ ts) =
-    omega (arith, keep-rises l (finishOf k e), climb-rises (tickAfter k e) (keep l (finishOf k e)) ts)
+    omega (arith, count-rises l (finishOf k e), climb-rises (tickAfter k e) (keep l (finishOf k e)) ts)
 climb-rises k l (theEnd x ∷ ts) = omega arith
 
 -- so if the count fits at the end, it did before
@@ -71,4 +45,4 @@ climb-run k l (x ∷ xs) ts =
     let e = x .event in
     climb-run (tickAfter k e) (keep l (finishOf k e)) xs ts
     ∙ ap (λ (m : Results). climb (ticksAfter (tickAfter k e) (eventsOf xs)) m ts)
-    (sym (keep-append l (finishOf k e) (finishesIn (tickAfter k e) (eventsOf xs))))
+    (sym (keeps-on l (finishOf k e) (finishesIn (tickAfter k e) (eventsOf xs))))

@@ -1,4 +1,5 @@
 pub mod Ticks
 pub mod Climb
 pub mod Rounds
+pub mod OneTurn
 pub mod Theorems

@@ -16,12 +16,12 @@ use Rattle.windows.specs.Rounds.{Input, inputAfter, roundOf, lastRound, wantsRe
 use Rattle.windows.specs.Telling.{Told, telling, eventsTold}
 use Rattle.windows.proofs.Rounds.{rounds-print}
 use Rattle.windows.proofs.Telling.{events-told, run-told, not-full}
-use Rattle.results.specs.Results.{finishesIn, noResults, keep, fits}
+use Rattle.results.specs.Results.{ticksAfter, finishesIn, noResults, keep, fits}
 use Rattle.results.specs.declared.Results.{Results}
 use Rattle.listing.specs.Listing.{wholeRun, eventsOf, finishesOf, someSeen, listRun}
 use Rattle.ladder_turns.specs.Ladder.{nextOf, endsAs, Turned, turnOn, windowRun, endOf, ladderList, ladderLast}
 use Rattle.ladder_turns.specs.Rounds.{Climbed, onNext, listRounds, RoundsList}
-use Rattle.ladder_turns.proofs.Ticks.{Open, own, ticksAfter, GoesOn, run-follows}
+use Rattle.ladder_turns.proofs.Ticks.{Open, own, GoesOn, run-follows}
 use Rattle.ladder_turns.proofs.Climb.{climb, fits-before, climb-run}
 
 -- ---- what follows a turn

@@ -2,7 +2,7 @@
 use Prim.Native.Nat.{ℕ, zero, suc}
 use mathlib.Core.Path.{_≡_, refl, sym, ap, subst, _∙_}
 use mathlib.Core.Bool.{Bool, true, false, false≢true}
-use mathlib.Core.List.{List, [], _∷_, _++_, append-assoc}
+use mathlib.Core.List.{List, [], _∷_, _++_}
 use lib.ListN.{drop}
 use lib.IntN.{ℤ}
 use Rattle.item.specs.Said.{Said, gives, more, finish, refuses}
@@ -18,7 +18,7 @@ use Rattle.state.proofs.Theorems.{read-calls-are-acts}
 use Rattle.calls.specs.Calls.{Call, Seen, call, isPending, seenBy}
 use Rattle.calls.specs.Along.{Halt, isFull, wantsMore, finishes, isRefused, Run, before, onSaid, along}
 use Rattle.calls.proofs.Theorems.{more-leaves}
-use Rattle.results.specs.Results.{Finish, finishOf, tickAfter, finishesIn}
+use Rattle.results.specs.Results.{finishOf, tickAfter, ticksAfter, finishesIn}
 use Rattle.listing.specs.Listing.{eventsOf}
 
 -- ---- one call
@@ -80,10 +80,6 @@ same-finish k j (other r) s t o p h = ap (λ (i : ℤ). finishOf i (other r)) (o
 
 -- ---- along a body
 
-unfoldable pub ticksAfter : ℤ → List Event → ℤ
-ticksAfter k [] = k
-ticksAfter k (e ∷ es) = ticksAfter (tickAfter k e) es
-
 -- calls may follow
 abbrev pub GoesOn : Halt → Type 0
 GoesOn isFull = Unit {0}
@@ -127,12 +123,3 @@ run-follows see (suc n) k j r bytes o p =
     let u = call-ticks r (see bytes .window) (see bytes .last) e m h in
     an-event (see bytes) k j r o p e m h (along see n (readerAfter t) (drop m bytes))
     (run-follows see n (tickAfter k e) (tickAfter j e) (readerAfter t) (drop m bytes) (opens k e (r .scalars) (t .scalars) o u) (opens j e (r .scalars) (t .scalars) p u)))
-
--- ---- finishes of events one behind the other
-
-pub finishes-append : (k : ℤ) (es ds : List Event) → finishesIn k (es ++ ds) ≡ finishesIn k es ++ finishesIn (ticksAfter k es) ds
-unfolding finishesIn ticksAfter
-finishes-append k [] ds = refl
-finishes-append k (e ∷ es) ds =
-    ap (λ (l : List Finish). finishOf k e ++ l) (finishes-append (tickAfter k e) es ds)
-    ∙ sym (append-assoc (finishOf k e) (finishesIn (tickAfter k e) es) (finishesIn (ticksAfter (tickAfter k e) es) ds))

@@ -1,10 +1,12 @@
 -- The ladder program on the bytes at hand: one turn; its list and its text of a whole body. docs/FORMAT.md, "The ladder program".
-use Prim.Native.Nat.{ℕ}
+use Prim.Native.Nat.{ℕ, _+_, _≤_}
 use mathlib.Core.Path.{_≡_}
 use mathlib.Core.Bool.{Bool, cond}
 use mathlib.Core.List.{List, _++_}
-use lib.IntN.{pos}
+use lib.ListN.{length, take, drop}
 use Rattle.refusal.specs.Numbers.{numberOf}
+use Rattle.varint.specs.declared.Wrote.{Wrote}
+use Rattle.varint.specs.declared.Wrote.the-variants.{Past}
 use Rattle.kinds.specs.declared.Version.{Version}
 use Rattle.state.specs.State.{emptyReader}
 use Rattle.state.specs.declared.Reader.{Reader}
@@ -16,7 +18,7 @@ use Rattle.results.specs.Results.{Finish, bestsBelow, othersIn, noResults, keep
 use Rattle.results.specs.declared.Results.{Results}
 use Rattle.ranking.specs.Ranking.{InOrder}
 use Rattle.listing.specs.Listing.{wholeRun, finishesOf, listRun}
-use Rattle.result_lines.specs.ResultLines.{listText}
+use Rattle.result_lines.specs.ResultLines.{listText, longestList, WritesList}
 use Rattle.ladder_turns.specs.declared.After.{After}
 use Rattle.ladder_turns.specs.declared.After.the-variants as afters
 use Rattle.ladder_turns.specs.declared.ListTurn.{ListTurn}
@@ -92,3 +94,17 @@ pub record LadderText (v : Version) (body text : List ℕ) : Type 0 where
   pub ending : Ending
   pub last : lastOf ending ≡ ladderLast v body
   pub same : text ≡ listText ordered (othersIn (ladderFinishes v body)) ending
+
+-- such a text stands in a target at a place, with room around it; the answer is the place past it
+pub record TextAt (v : Version) (body out₀ : List ℕ) (at : ℕ) (r : Wrote) (out₁ : List ℕ) : Type 0 where
+  pub text : List ℕ
+  pub is : LadderText v body text
+  pub answer : r ≡ Past (at + length text)
+  pub target : out₁ ≡ take at out₀ ++ text ++ drop (at + length text) out₀
+
+-- the list of a body and how it ends, written where the longest text fits, are a text that the program may print
+abbrev pub ListText : Type 0
+ListText =
+    (v : Version) (body : List ℕ) (ending : Ending) (out₀ : List ℕ) (at : ℕ) (r : Wrote) (out₁ : List ℕ)
+    → lastOf ending ≡ ladderLast v body → at + longestList ≤ length out₀ → WritesList (ladderList v body) ending out₀ at r out₁
+    → TextAt v body out₀ at r out₁
