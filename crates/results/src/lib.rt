@@ -81,15 +81,13 @@ fn finish_in(item: Item) -> FinishOf
 {
     let t = item.take_apart();
     let tag = t.tag;
-    let fields = t.fields;
+    let cid = t.fields.first;
+    let time = t.fields.second;
     match tag {
         Tag::Plain(_) => FinishOf::NoFinish,
         Tag::Named(which) => {
             if is_player_finish(which) {
-                return FinishOf::Finish {
-                    cid: fields.first,
-                    time: fields.second,
-                };
+                return FinishOf::Finish { cid, time };
             }
             FinishOf::NoFinish
         }

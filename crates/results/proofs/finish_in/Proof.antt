@@ -15,24 +15,24 @@ use Rattle.results.proofs.finish_in.Tie as tie
 
 -- an extension, by what `is_player_finish` answers
 named : (c : tie.After-is-player-finish) (b : Bool) → c .is-player-finish .result ≡ b → (k : ℤ)
-    → cond b (finish (c .before .before .before .before .before .take-apart .result .fields .first) (c .before .before .before .before .before .take-apart .result .fields .second) k ∷ []) []
-    ≡ finishIn k (itemOf (c .before .before .before .before .before .before .args .item))
+    → let f = c .before .before .before .before .before .before .take-apart .result .fields in
+    cond b (finish (f .first) (f .second) k ∷ []) [] ≡ finishIn k (itemOf (c .before .before .before .before .before .before .before .args .item))
 named c b e k =
-    let t = c .before .before .before .before .before .take-apart in
+    let t = c .before .before .before .before .before .before .take-apart in
     let g = c .before .before .tag .given in
     ap (λ (x : Bool). cond x (finish (t .result .fields .first) (t .result .fields .second) k ∷ []) []) (sym e ∙ c .is-player-finish .ensures)
     ∙ finish-told _ (t .result) (Named (g .0 .0)) (t .ensures) (g .1) k
 
 returns : tie.Need-returns
 returns c k =
-    let t = c .before .before .before .before .before .before .before .take-apart in
-    let u : toZ w32 (ofZ w32 (t .result .fields .first)) ≡ t .result .fields .first = search needs in
-    let v : toZ w32 (ofZ w32 (t .result .fields .second)) ≡ t .result .fields .second = search needs in
-    rw (u, v) (named (c .before .before) true (c .before .if1 .taken) k)
+    let f = c .before .before .before .before .before .before .before .take-apart .result .fields in
+    let u : toZ w32 (ofZ w32 (f .first)) ≡ f .first = search needs in
+    let v : toZ w32 (ofZ w32 (f .second)) ≡ f .second = search needs in
+    rw (u, v) (named (c .before) true (c .if1 .taken) k)
 
 returns-2 : tie.Need-returns-2
 returns-2 c k =
-    let t = c .before .before .before .take-apart in
+    let t = c .before .before .before .before .take-apart in
     let g = c .enum-told .given in
     finish-told _ (t .result) (Plain (g .0 .0)) (t .ensures) (g .1) k
 
@@ -41,7 +41,7 @@ returns-3 c k = named (c .before) false (c .if1 .left) k
 
 returns-4 : tie.Need-returns-4
 returns-4 c k =
-    let t = c .before .before .before .take-apart in
+    let t = c .before .before .before .before .take-apart in
     finish-told _ (t .result) Other (t .ensures) (c .enum-told2 .given .1) k
 
 pub finish-in-spec : {M : Type 1} → statement M

@@ -1,0 +1,5 @@
+pub mod Slims
+pub mod Keeping
+pub mod Beside
+pub mod Turns
+pub mod Edges
