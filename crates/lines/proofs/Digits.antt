@@ -34,7 +34,7 @@ cond-length : (t : Bool) (x y : List ℕ) (n : ℕ) → length x ≤ n → lengt
 cond-length true x y n h j = h
 cond-length false x y n h j = j
 
-digits-le : (k n : ℕ) (rest : List ℕ) → length (decimalDigits k n rest) ≤ k + length rest
+pub digits-le : (k n : ℕ) (rest : List ℕ) → length (decimalDigits k n rest) ≤ k + length rest
 unfolding decimalDigits
 digits-le zero n rest = omega arith
 digits-le (suc k) n rest =

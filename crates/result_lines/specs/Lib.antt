@@ -1,1 +1,2 @@
 pub mod ResultLines
+pub mod steps

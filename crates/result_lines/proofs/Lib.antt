@@ -1,0 +1,5 @@
+pub mod Number
+pub mod Order
+pub mod Puts
+pub mod Rows
+pub mod Text
