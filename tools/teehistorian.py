@@ -1,4 +1,4 @@
-"""teehistorian.py REPLAY FILE: takes a .teehistorian file apart and feeds its body to the replay program REPLAY.
+"""teehistorian.py PROGRAM FILE: takes a .teehistorian file apart and feeds its body to PROGRAM, which is replay or ladder.
 
 The file is the magic of 16 bytes, a JSON header that ends with a byte 00, and the body; unpack.py unpacks it where it is packed. The
 header's "version", a string, says which version of the format the body has. Nothing else of the header is looked at.
@@ -126,7 +126,7 @@ def pass_lines(source):
     return held
 
 
-def replay(program, feeder):
+def pass_on(program, feeder):
     """The status; what is printed is the program's lines. A last line that says only that the bytes ended, where in truth they could not be
     read on, is not printed."""
     feeder.start()
@@ -139,7 +139,7 @@ def replay(program, feeder):
     if feeder.failure:
         raise feeder.failure
     if status != 0:
-        raise Unfit(f"the replay program ended with status {status}")
+        raise Unfit(f"the program ended with status {status}")
     return next((n for word, n in LAST if last.startswith(word)), NO_LAST_LINE)
 
 
@@ -151,7 +151,7 @@ def run(words, fd):
     program = subprocess.Popen([words[0]], stdin=subprocess.PIPE, stdout=subprocess.PIPE, bufsize=0)
     try:
         feeder = Feeder(program.stdin, bytes([version]) + start, chunks, packed)
-        return replay(program, feeder)
+        return pass_on(program, feeder)
     except BrokenPipeError:
         # whoever reads the lines may stop early
         return NO_LAST_LINE
@@ -161,17 +161,18 @@ def run(words, fd):
 
 
 def main(words):
+    name = os.path.basename(words[0]) if words else "PROGRAM"
     if len(words) != 2 or words[1] in ("-h", "--help"):
-        print("usage: tools/replay FILE    (- for standard input)", file=sys.stderr)
+        print(f"usage: tools/{name} FILE    (- for standard input)", file=sys.stderr)
         return 2
     try:
         return run(words, 0 if words[1] == "-" else os.open(words[1], os.O_RDONLY))
     except OSError as e:
-        print(f"replay: {words[1]}: {e.strerror}", file=sys.stderr)
+        print(f"{name}: {words[1]}: {e.strerror}", file=sys.stderr)
     except Unfit as e:
-        print(f"replay: {words[1]}: {e}", file=sys.stderr)
+        print(f"{name}: {words[1]}: {e}", file=sys.stderr)
     except Unwritten as e:
-        print(f"replay: standard output: {e}", file=sys.stderr)
+        print(f"{name}: standard output: {e}", file=sys.stderr)
     except KeyboardInterrupt:
         return 130
     return NO_LAST_LINE

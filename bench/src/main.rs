@@ -1,6 +1,6 @@
 //! Reading and replaying the same bodies by libtw2 and by the proved reader: bench DIR ROUNDS
 //!
-//! DIR holds bodies named SORT-MEGABYTES, each after its version byte, and both replay programs are run on them.
+//! DIR holds bodies named SORT-MEGABYTES, each after its version byte; both replay programs and ladder are run on them.
 
 mod programs;
 mod readers;
@@ -15,6 +15,7 @@ const SORTS: [&str; 4] = ["match", "moves", "inputs", "chat"];
 const MEGABYTES: [u64; 3] = [5, 20, 80];
 const ORACLE: &str = concat!(env!("CARGO_MANIFEST_DIR"), "/../oracle/target/oracle");
 const REPLAY: &str = concat!(env!("CARGO_MANIFEST_DIR"), "/../target/bin/replay");
+const LADDER: &str = concat!(env!("CARGO_MANIFEST_DIR"), "/../target/bin/ladder");
 
 fn main() -> ExitCode {
     let arguments: Vec<String> = std::env::args().skip(1).collect();
@@ -64,6 +65,7 @@ fn measure(file: &Path, rounds: u32) -> io::Result<Report> {
         }
         report.programs[0].run(ORACLE, &["replay"], file)?;
         report.programs[1].run(REPLAY, &[], file)?;
+        report.ladder.run(LADDER, &[], file)?;
     }
     report.check()?;
     Ok(report)

@@ -1,4 +1,4 @@
-//! A replay program run on a file, its output thrown away: the time and the most memory that it took.
+//! A program run on a file, its output thrown away: the time and the most memory that it took.
 //!
 //! What Linux counts as a process's memory begins with that of the process that started it. So the program is started by a
 //! process of this program that has read no body: bench one PROGRAM FILE WORDS.

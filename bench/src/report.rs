@@ -49,6 +49,7 @@ const READERS: [&str; 4] = [
     "one event, by value",
 ];
 const PROGRAMS: [&str; 2] = ["libtw2 replay", "replay"];
+const LADDER: &str = "ladder";
 
 pub struct Report {
     events: u64,
@@ -56,6 +57,8 @@ pub struct Report {
     /// libtw2's first: the others are held to it.
     pub readers: [Best; 4],
     pub programs: [Best; 2],
+    /// libtw2 has no such program. It is held to the reader of many events a call, which it is built on.
+    pub ladder: Best,
 }
 
 impl Report {
@@ -65,6 +68,7 @@ impl Report {
             bytes,
             readers: READERS.map(Best::new),
             programs: PROGRAMS.map(Best::new),
+            ladder: Best::new(LADDER),
         }
     }
     /// Whether all readers read the same number of events.
@@ -83,25 +87,29 @@ impl Report {
             self.bytes, self.events
         );
         for best in &self.readers {
-            println!("{}", self.line(best, &self.readers[0]));
+            println!("{}", self.line(best, &self.readers[0], "libtw2's"));
         }
         for best in &self.programs {
-            let memory = best.number as f64 / 1024.0;
-            println!(
-                "{}  {memory:7.1} MB of memory",
-                self.line(best, &self.programs[0])
-            );
+            let line = self.line(best, &self.programs[0], "libtw2's");
+            println!("{line}  {}", memory(best));
         }
+        let line = self.line(&self.ladder, &self.readers[1], "count_many's");
+        println!("{line}  {}", memory(&self.ladder));
     }
-    fn line(&self, best: &Best, rust: &Best) -> String {
+    /// The time and the speed, and that speed as a share of another's.
+    fn line(&self, best: &Best, other: &Best, whose: &str) -> String {
         let each = best.nanoseconds() / self.events.max(1) as f64;
         let speed = self.bytes as f64 * 1000.0 / best.nanoseconds();
-        let ratio = rust.nanoseconds() / best.nanoseconds();
+        let ratio = other.nanoseconds() / best.nanoseconds();
         format!(
-            "  {:20} {each:8.2} ns/event {speed:8.1} MB/s  {ratio:6.2} x libtw2's speed",
+            "  {:20} {each:8.2} ns/event {speed:8.1} MB/s  {ratio:6.2} x {whose} speed",
             best.name
         )
     }
+}
+
+fn memory(best: &Best) -> String {
+    format!("{:7.1} MB of memory", best.number as f64 / 1024.0)
 }
 
 /// How the time for a byte grows from size to size: 1.00 is linear.
@@ -112,6 +120,7 @@ pub fn growth(sort: &str, reports: &[Report]) {
     for (index, name) in PROGRAMS.iter().enumerate() {
         print_growth(sort, name, reports, |r| r.programs[index].nanoseconds());
     }
+    print_growth(sort, LADDER, reports, |r| r.ladder.nanoseconds());
 }
 
 fn print_growth(sort: &str, name: &str, reports: &[Report], time: impl Fn(&Report) -> f64) {

@@ -2,6 +2,7 @@
 
 mod body;
 mod extension;
+mod finishes;
 mod integer;
 mod integer_lines;
 mod limits;
@@ -39,9 +40,11 @@ pub enum Sort {
     Short,
     /// Bodies near and above one window of 65536 bytes.
     Long,
+    /// PlayerFinish records: their limits in a fixed list first, then races.
+    Finishes,
 }
 
-pub const SORTS: [Sort; 9] = [
+pub const SORTS: [Sort; 10] = [
     Sort::Match,
     Sort::Moves,
     Sort::Inputs,
@@ -51,6 +54,7 @@ pub const SORTS: [Sort; 9] = [
     Sort::Limits,
     Sort::Short,
     Sort::Long,
+    Sort::Finishes,
 ];
 
 impl Sort {
@@ -65,6 +69,7 @@ impl Sort {
             Sort::Limits => "limits",
             Sort::Short => "short",
             Sort::Long => "long",
+            Sort::Finishes => "finishes",
         }
     }
     pub fn named(name: &str) -> Option<Sort> {
@@ -93,6 +98,7 @@ pub fn input(sort: Sort, seed: u64, index: u64) -> Vec<u8> {
         Sort::Limits => limits::input(index, &mut random),
         Sort::Short => short::input(index, &mut random),
         Sort::Long => long::input(index, &mut random),
+        Sort::Finishes => finishes::input(index, &mut random),
     }
 }
 
@@ -107,5 +113,6 @@ pub fn sized(sort: Sort, seed: u64, size: usize) -> Vec<u8> {
         Sort::Random | Sort::Short => noise::sized(size, &mut random),
         Sort::Damaged => noise::sized_damaged(size, &mut random),
         Sort::Limits => limits::sized(size, &mut random),
+        Sort::Finishes => finishes::sized(size, &mut random),
     }
 }

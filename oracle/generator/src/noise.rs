@@ -32,7 +32,7 @@ pub fn sized(size: usize, random: &mut Random) -> Vec<u8> {
 
 /// Which of a few clients are present and have inputs.
 #[derive(Default)]
-struct Few {
+pub struct Few {
     present: [bool; 4],
     has_input: [bool; 4],
 }
@@ -56,7 +56,8 @@ fn records(version: u8, random: &mut Random) -> Vec<u8> {
 }
 
 impl Few {
-    fn careful(&mut self, body: Body, version: u8, random: &mut Random) -> Body {
+    /// A record that the board allows.
+    pub fn careful(&mut self, body: Body, version: u8, random: &mut Random) -> Body {
         let client = random.below(4);
         let number = client as i32;
         match (
@@ -124,7 +125,7 @@ pub fn sized_damaged(size: usize, random: &mut Random) -> Vec<u8> {
 }
 
 /// Changes the input in one way, nowhere before `from`.
-fn damage(input: &mut Vec<u8>, from: usize, random: &mut Random) {
+pub fn damage(input: &mut Vec<u8>, from: usize, random: &mut Random) {
     if input.len() <= from {
         return;
     }

@@ -1,6 +1,7 @@
 //! Records, one method each.
 
 use crate::body::Body;
+use crate::extension::PLAYER_FINISH;
 
 pub const FINISH: i32 = -1;
 pub const TICK_SKIP: i32 = -2;
@@ -62,5 +63,9 @@ impl Body {
     }
     pub fn extension(self, identifier: &[u8], payload: &[u8]) -> Body {
         self.int(EXTENSION).raw(identifier).data(payload)
+    }
+    pub fn player_finish(self, client: i32, time: i32) -> Body {
+        let payload = Body::bare().ints(&[client, time]).done();
+        self.extension(PLAYER_FINISH, &payload)
     }
 }

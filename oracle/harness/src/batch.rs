@@ -91,7 +91,7 @@ impl<'a> Batch<'a> {
         let given = std::mem::take(&mut self.given);
         let wanted = std::mem::take(&mut self.wanted);
         let whole = self.subject(When::End);
-        if whole.printed(&given, &wanted)? == wanted {
+        if whole.prints(&given, &wanted)? {
             return Ok(());
         }
         let before = self.total.differences;

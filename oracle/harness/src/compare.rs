@@ -1,8 +1,9 @@
-//! `oracle compare N SEED REPLAY LOOKUPS`: the replay program and lookup_vectors against libtw2 on generated inputs.
+//! `oracle compare N SEED REPLAY LOOKUPS LADDER`: the programs against libtw2 on generated inputs.
 
 use crate::batch::Batch;
 use crate::expected::expected;
 use crate::expected::Left;
+use crate::lists::Lists;
 use crate::subject::Subject;
 use crate::subject::Task;
 use generator::Sort;
@@ -12,6 +13,13 @@ use std::process::ExitCode;
 /// Inputs of the sort `long` take a second or two each: there is one for this many of each other sort.
 const LONG_SHARE: u64 = 200;
 
+/// The programs' files.
+pub struct Programs<'a> {
+    pub replay: &'a str,
+    pub lookups: &'a str,
+    pub ladder: &'a str,
+}
+
 #[derive(Default)]
 struct Count {
     inputs: u64,
@@ -20,16 +28,18 @@ struct Count {
     differences: u64,
 }
 
-pub fn command(count: u64, seed: u64, replay: &str, lookups: &str) -> io::Result<ExitCode> {
+pub fn command(count: u64, seed: u64, programs: &Programs) -> io::Result<ExitCode> {
     let mut total = Count::default();
-    let mut batch = Batch::new(lookups);
+    let mut batch = Batch::new(programs.lookups);
+    let mut lists = Lists::new(programs.ladder);
     let mut parts = Vec::new();
     for sort in generator::SORTS {
         let inputs = sort_count(sort, count);
         for index in 0..inputs {
             let input = generator::input(sort, seed, index);
             let origin = format!("generate {} {seed} {index}", sort.name());
-            compare_one(replay, &input, &origin, &mut total)?;
+            compare_one(programs.replay, &input, &origin, &mut total)?;
+            lists.compare(&input, &origin)?;
             batch.add(index, input, origin)?;
         }
         parts.push(format!("{} {inputs}", sort.name()));
@@ -37,7 +47,8 @@ pub fn command(count: u64, seed: u64, replay: &str, lookups: &str) -> io::Result
     batch.compare()?;
     println!("{}", summary(seed, &parts, &total));
     println!("{}", batch.summary());
-    let differences = total.differences + batch.differences();
+    println!("{}", lists.summary());
+    let differences = total.differences + batch.differences() + lists.differences();
     Ok(ExitCode::from(u8::from(differences > 0)))
 }
 
@@ -57,7 +68,7 @@ fn compare_one(program: &str, input: &[u8], origin: &str, total: &mut Count) -> 
     total.inputs += 1;
     total.client += u64::from(wanted.left == Some(Left::Client));
     total.too_long += u64::from(wanted.left == Some(Left::TooLong));
-    if subject.printed(input, &wanted.text)? == wanted.text {
+    if subject.prints(input, &wanted.text)? {
         return Ok(());
     }
     total.differences += 1;

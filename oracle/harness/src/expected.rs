@@ -24,43 +24,59 @@ pub struct Expected {
 }
 
 pub fn expected(input: &[u8]) -> Expected {
-    let run = input.split_first().and_then(|(version, body)| {
-        let pace = if body.len() < WINDOW {
-            Pace::Whole
-        } else {
-            Pace::AtMost(WINDOW)
-        };
-        Run::new(*version, body, pace)
+    let mut text = String::new();
+    let end = read(input, |event| {
+        text.push_str(&text::event(event));
+        text.push('\n');
     });
-    match run {
-        Some(run) => lines(run),
-        None => Expected {
-            text: "refused 2\n".to_string(),
-            left: None,
-        },
+    text.push_str(&end.line);
+    text.push('\n');
+    Expected {
+        text,
+        left: end.left,
     }
 }
 
-fn lines(mut run: Run) -> Expected {
-    let mut text = String::new();
+/// The replay program's last line, and how the body left the domain of comparison, if it did.
+pub struct End {
+    pub line: String,
+    pub left: Option<Left>,
+}
+
+/// Shows each event that the replay program has a line for.
+pub fn read(input: &[u8], mut show: impl FnMut(&Item)) -> End {
+    let Some(mut run) = start(input) else {
+        return End {
+            line: "refused 2".to_string(),
+            left: None,
+        };
+    };
     loop {
         let (line, left) = match run.call() {
             Answer::Event(event) if has_large_client(&event) => {
                 ("refused 10".to_string(), Some(Left::Client))
             }
             Answer::Event(event) => {
-                text.push_str(&text::event(&event));
-                text.push('\n');
+                show(&event);
                 continue;
             }
             Answer::Finish => ("finish".to_string(), None),
             Answer::Refused(number) => (format!("refused {number}"), None),
             Answer::Stopped => ("too long".to_string(), Some(Left::TooLong)),
         };
-        text.push_str(&line);
-        text.push('\n');
-        return Expected { text, left };
+        return End { line, left };
     }
+}
+
+/// None if there is no version, or another than 1 and 2.
+fn start(input: &[u8]) -> Option<Run<'_>> {
+    let (version, body) = input.split_first()?;
+    let pace = if body.len() < WINDOW {
+        Pace::Whole
+    } else {
+        Pace::AtMost(WINDOW)
+    };
+    Run::new(*version, body, pace)
 }
 
 pub fn has_large_client(event: &Item) -> bool {

@@ -8,6 +8,8 @@ pub mod expected;
 pub mod fields;
 pub mod framed;
 pub mod integers;
+pub mod ladder;
+pub mod lists;
 pub mod lookups;
 pub mod program;
 pub mod records;
@@ -16,6 +18,7 @@ pub mod run;
 pub mod shrink;
 pub mod subject;
 pub mod text;
+pub mod ties;
 
 use std::io;
 use std::io::Read;

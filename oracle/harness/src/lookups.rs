@@ -4,6 +4,7 @@
 use crate::board::write_client;
 use crate::expected::has_large_client;
 use crate::expected::LARGEST_CLIENT;
+use crate::framed::looked;
 use crate::framed::parted;
 use crate::framed::When;
 use crate::input;
@@ -32,8 +33,9 @@ pub fn command() -> io::Result<()> {
     let mut rest = &bytes[..];
     let mut out = io::stdout().lock();
     while !rest.is_empty() {
-        let (when, input, next) =
-            parted(rest).ok_or_else(|| invalid("not inputs of lookup_vectors"))?;
+        let wrong = || invalid("not inputs of lookup_vectors");
+        let (framed, next) = parted(rest).ok_or_else(wrong)?;
+        let (when, input) = looked(framed).ok_or_else(wrong)?;
         out.write_all(lookups(input, when).text.as_bytes())?;
         rest = next;
     }

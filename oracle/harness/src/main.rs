@@ -7,6 +7,7 @@ use oracle::framed;
 use oracle::input;
 use oracle::integers;
 use oracle::invalid;
+use oracle::ladder;
 use oracle::lookups;
 use oracle::records;
 use oracle::replay;
@@ -16,12 +17,14 @@ use std::process::ExitCode;
 const USAGE: &str = "usage:
   oracle replay [--used] [--board] [--fields]  < INPUT
   oracle expected                              < INPUT
+  oracle ladder                                < INPUT
+  oracle ladders                               < INPUTS
   oracle lookups                               < INPUTS
   oracle framed                                < LINES
   oracle records                               < LINES
   oracle integers                              < LINES
   oracle bench FILE ROUNDS
-  oracle compare N SEED REPLAY LOOKUPS";
+  oracle compare N SEED REPLAY LOOKUPS LADDER";
 
 fn main() -> ExitCode {
     let arguments: Vec<String> = std::env::args().skip(1).collect();
@@ -39,13 +42,20 @@ fn command(words: &[&str]) -> io::Result<ExitCode> {
     match words {
         ["replay", options @ ..] => replay::command(&replay::Options::parse(options)?)?,
         ["expected"] => print!("{}", expected::expected(&input()?).text),
+        ["ladder"] => print!("{}", ladder::ladder(&input()?).text),
+        ["ladders"] => ladder::command()?,
         ["lookups"] => lookups::command()?,
         ["framed"] => framed::command()?,
         ["records"] => records::command()?,
         ["integers"] => integers::command()?,
         ["bench", file, rounds] => bench::command(file, number(rounds)?)?,
-        ["compare", count, seed, replay, lookups] => {
-            return compare::command(number(count)?, number(seed)?, replay, lookups);
+        ["compare", count, seed, replay, lookups, ladder] => {
+            let programs = compare::Programs {
+                replay,
+                lookups,
+                ladder,
+            };
+            return compare::command(number(count)?, number(seed)?, &programs);
         }
         _ => return Err(invalid(USAGE)),
     }

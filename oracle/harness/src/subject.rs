@@ -4,9 +4,11 @@ use crate::expected::expected;
 use crate::fields::hex;
 use crate::framed::framed;
 use crate::framed::When;
+use crate::ladder::ladder;
 use crate::lookups::lookups;
 use crate::program::output;
 use crate::shrink::shrink;
+use crate::ties::settled;
 use std::io;
 use std::io::Write;
 
@@ -19,6 +21,8 @@ pub enum Task {
     Replay,
     /// The boards that lookup_vectors prints.
     Lookups(When),
+    /// The list that the program ladder prints.
+    Ladder,
 }
 
 pub struct Subject<'a> {
@@ -30,7 +34,7 @@ impl Subject<'_> {
     /// The bytes that the program reads for an input.
     fn given(&self, input: &[u8]) -> Vec<u8> {
         match self.task {
-            Task::Replay => input.to_vec(),
+            Task::Replay | Task::Ladder => input.to_vec(),
             Task::Lookups(when) => framed(input, when),
         }
     }
@@ -38,15 +42,23 @@ impl Subject<'_> {
         match self.task {
             Task::Replay => expected(input).text,
             Task::Lookups(when) => lookups(input, when).text,
+            Task::Ladder => ladder(input).text,
         }
     }
     /// What the program prints for what it reads, as far as it can matter.
-    pub fn printed(&self, given: &[u8], wanted: &str) -> io::Result<String> {
+    fn printed(&self, given: &[u8], wanted: &str) -> io::Result<String> {
         output(self.program, given, wanted.len() + SURPLUS)
     }
+    /// Whether the program prints what is wanted, but for what is free.
+    pub fn prints(&self, given: &[u8], wanted: &str) -> io::Result<bool> {
+        let printed = self.printed(given, wanted)?;
+        Ok(match self.task {
+            Task::Replay | Task::Lookups(_) => printed == wanted,
+            Task::Ladder => settled(&printed) == wanted,
+        })
+    }
     pub fn differs(&self, input: &[u8]) -> io::Result<bool> {
-        let wanted = self.wanted(input);
-        Ok(self.printed(&self.given(input), &wanted)? != wanted)
+        Ok(!self.prints(&self.given(input), &self.wanted(input))?)
     }
     /// Shows a difference, and the same for a shorter input.
     pub fn show(&self, input: &[u8], origin: &str) -> io::Result<()> {
