@@ -16,7 +16,7 @@ use Rattle.listing.specs.Listing.{eventsOf}
 use Rattle.ladder_turns.specs.Ladder.{goesOn, endsAs}
 use Rattle.ladder_turns.specs.Rounds.{Climbed}
 
--- from an open tick and a list on
+-- ---- from an open tick and a list on
 
 unfoldable pub climb : ℤ → Results → List Told → Climbed
 climb k l [] = record { list = l; next = goesOn }
