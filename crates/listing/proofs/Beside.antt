@@ -2,7 +2,6 @@
 use Prim.Native.Nat.{ℕ, _+_}
 use mathlib.Core.Path.{_≡_, refl, sym, ap, _∙_}
 use mathlib.Core.Bool.{Bool, true, false, cond}
-use mathlib.Core.List.{map}
 use native.Mathlib.Omega.{arith}
 use lib.IntN.{ℤ}
 use Rattle.refusal.specs.declared.Refusal.the-variants.{BadState}
@@ -12,9 +11,10 @@ use Rattle.calls.specs.Calls.{Seen}
 use Rattle.calls.specs.Along.{Halt, Run, stopped, before}
 use Rattle.results.specs.Results.{finishOf, tickAfter, finishesIn, keep, fits}
 use Rattle.results.specs.declared.Results.{Results}
+use Rattle.results.proofs.Theorems.{keeps-on}
 use Rattle.listing.specs.Listing.{ListRun, eventsOf, finishesOf, someSeen, listRun}
 use Rattle.listing.specs.steps.Lists.{unchanged}
-use Rattle.listing.proofs.Keeping.{keep-append, stays-past}
+use Rattle.listing.proofs.Keeping.{stays-past}
 
 -- events with used bytes are done, which made the list l and opened tick k; rest is left
 pub record Behind (run rest : Run) (l₀ : Results) (r₀ : Reader) (l : Results) (k : ℤ) (used : ℕ) (gave : Bool) : Type 0 where
@@ -44,7 +44,7 @@ module _ {run : Run} {l₀ : Results} {r₀ : Reader} {l : Results} {k : ℤ} {u
       → keep l₀ (finishesOf r₀ run)
       ≡ keep (keep l (finishOf k (x .event))) (finishesIn (tickAfter k (x .event)) (eventsOf (rest .seen)))
   unfolding finishesIn
-  taken x rest b = b .list ∙ keep-append l (finishOf k (x .event)) _
+  taken x rest b = b .list ∙ keeps-on l (finishOf k (x .event)) _
 
   pub one-more : (x : Seen) (rest : Run) → Behind run (before x rest) l₀ r₀ l k used gave
       → Behind run rest l₀ r₀ (keep l (finishOf k (x .event))) (tickAfter k (x .event)) (used + x .used) true

@@ -1,6 +1,6 @@
 -- A list beside a bad reader and beside a closed one: nothing is read. Assumes nothing.
 use Prim.Native.Nat.{ℕ, _≤_}
-use mathlib.Core.Path.{_≡_, sym, ap, _∙_}
+use mathlib.Core.Path.{_≡_, ap, _∙_}
 use mathlib.Core.Bool.{Bool, true, false}
 use mathlib.Core.List.{List}
 use native.Mathlib.Omega.{arith}
@@ -10,7 +10,7 @@ use Rattle.refusal.specs.declared.Refusal.the-variants.{BadState, Closed}
 use Rattle.state.specs.State.{goodReader}
 use Rattle.state.specs.declared.Reader.{Reader}
 use Rattle.state.proofs.Numbers.{picks-first, picks-second}
-use Rattle.calls.specs.Along.{Run, enough}
+use Rattle.calls.specs.Along.{enough}
 use Rattle.many.specs.Many.{refusedBy, manyCalls}
 use Rattle.many.proofs.Edges.{with-room}
 use Rattle.results.specs.declared.Results.{Results}

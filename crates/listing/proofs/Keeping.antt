@@ -1,45 +1,27 @@
--- A list that takes finishes: one part behind the other, a count that never falls, and what the code tells of it. Assumes nothing.
-use Prim.Native.Nat.{ℕ, _+_, _≤_}
+-- A list that takes finishes: a count that can't rise, and what the code tells of an event. Assumes nothing.
+use Prim.Native.Nat.{ℕ}
 use mathlib.Core.Path.{_≡_, refl, sym, ap, _∙_}
 use mathlib.Core.Bool.{Bool, true, false, cond, false≢true}
-use mathlib.Core.List.{List, [], _∷_, _++_}
+use mathlib.Core.List.{List}
 use native.Mathlib.Omega.{arith}
-use lib.Dec.{ltb, leb}
-use lib.IntN.{ℤ, pos, negsuc}
+use lib.IntN.{ℤ}
 use borrow.Author.Tests.{leb-false, lt-leb}
 use Rattle.refusal.specs.declared.Refusal.{Refusal}
 use Rattle.refusal.specs.declared.Refusal.the-variants.{BadState}
 use Rattle.state.specs.Reading.{Event}
-use Rattle.state.proofs.Every.{by-cond}
 use Rattle.state.proofs.Numbers.{picks-first}
-use Rattle.results.specs.Results.{Finish, finishOf, tickAfter, isLower, rowOf, resultsWith, keepAt, keep, fits, Keeps}
+use Rattle.results.specs.Results.{Finish, finishOf, tickAfter, resultsWith, keep, fits, Keeps}
 use Rattle.results.specs.declared.Results.{Results}
 use Rattle.results.specs.declared.Counted.{Counted}
 use Rattle.results.specs.declared.Counted.the-variants.{Others, Refused}
+use Rattle.results.proofs.Theorems.{count-rises}
 use Rattle.listing.specs.steps.Lists.{KeepsEvent}
-
-pub keep-append : (l : Results) (a b : List Finish) → keep l (a ++ b) ≡ keep (keep l a) b
-unfolding keep
-keep-append l [] b = refl
-keep-append l (f ∷ a) b = keep-append (keepAt l (f .client) f) a b
-
-one-rises : (l : Results) (z : ℤ) (f : Finish) → l .others ≤ keepAt l z f .others
-one-rises l (pos c) f =
-    by-cond (λ (x : Results). l .others ≤ x .others) (ltb c 128)
-    (λ _. by-cond (λ (x : Results). l .others ≤ x .others) (isLower (rowOf l c) f) (λ _. omega arith) (λ _. omega arith))
-    (λ _. omega arith)
-one-rises l (negsuc c) f = omega arith
-
-pub keep-rises : (l : Results) (fs : List Finish) → l .others ≤ keep l fs .others
-unfolding keep
-keep-rises l [] = omega arith
-keep-rises l (f ∷ fs) = omega (arith, one-rises l (f .client) f, keep-rises (keepAt l (f .client) f) fs)
 
 -- a count that is past the last stays so
 pub stays-past : (l : Results) (fs : List Finish) → fits l ≡ false → fits (keep l fs) ≡ false
 stays-past l fs e =
     let h = leb-false (l .others) 18446744073709551615 e in
-    lt-leb (keep l fs .others) 18446744073709551615 (omega (arith, keep-rises l fs))
+    lt-leb (keep l fs .others) 18446744073709551615 (omega (arith, count-rises l fs))
 
 -- ---- by what the code says of an event
 

@@ -10,7 +10,6 @@ use lib.IntN.{ℤ}
 use Rattle.refusal.specs.Numbers.{numberOf, valuesOf}
 use Rattle.refusal.specs.declared.Refusal.{Refusal}
 use Rattle.refusal.specs.declared.Refusal.the-variants.{BadState}
-use Rattle.item.specs.Said.{Said}
 use Rattle.state.specs.State.{Memory}
 use Rattle.state.specs.Reading.{Event, goodCall, readCall}
 use Rattle.state.specs.Views.{eventIs}

@@ -59,7 +59,7 @@ int-past s at =
     let x = readFrom (drop at s) at 0 (signOf (getD s at 0)) 0 in
     int-weaker at (at + 0) x (omega arith) (from-past (drop at s) at 0 (signOf (getD s at 0)) 0)
 
-abbrev PartPast : ℕ → PartRead → Type 0
+abbrev pub PartPast : ℕ → PartRead → Type 0
 PartPast at (parts.Got p next) = at ≤ next
 PartPast at parts.RunsOut = Unit {0}
 
@@ -196,7 +196,7 @@ after-data : (s : List ℕ) (at : ℕ) (id : Part) (x : PartRead) → PartPast a
 after-data s at id (parts.Got p next) h = found-past s at id p (find (shown s id)) next h
 after-data s at id parts.RunsOut h = tt
 
-after-id : (s : List ℕ) (at : ℕ) (x : PartRead) → PartPast at x → Past at (afterId s x)
+pub after-id : (s : List ℕ) (at : ℕ) (x : PartRead) → PartPast at x → Past at (afterId s x)
 after-id s at (parts.Got id next) h =
     after-data s at id (readData s next) (part-weaker at next (readData s next) h (data-past s next))
 after-id s at parts.RunsOut h = tt
