@@ -4,12 +4,10 @@ use mathlib.Core.Path.{_≡_, refl, sym, _∙_, ap}
 use mathlib.Core.Bool.{Bool, true, false}
 use mathlib.Core.List.{List, [], _∷_, _++_, flatMap}
 use native.Mathlib.Omega.{arith}
-use borrow.Author.Tests.{le-leb, leb-true, leb-false}
-use lib.Dec.{leb}
+use borrow.Author.Tests.{le-leb}
 use lib.ListN.{length, take, drop, length-append}
-use lib.Seq.{length-take-le, take-all, take-length}
+use lib.Seq.{length-take-le}
 use lib.IntN.{ℤ, pos}
-use Rattle.num.proofs.Cases.{by-bool}
 use Rattle.varint.specs.Written.{written}
 use Rattle.packer.proofs.Joined.{written-length, two-puts}
 use Rattle.state.specs.declared.Reader.{Reader}
@@ -31,18 +29,8 @@ use Rattle.lines.specs.Lines.{longest, refusedWord}
 use Rattle.lines.specs.steps.Puts.{PutsText}
 use Rattle.lines.proofs.Texts.{line-fits}
 use Rattle.windows.specs.Windows.{full, windowOf, isShort, isLastWindow, turnRun, ends, wants}
+use Rattle.windows.proofs.AtHand.{take-least}
 use Rattle.replayer.specs.Replay.{endingOf, runText, turnRoom, noTurn, Turns}
-
--- the window's end is no further than the bytes
-take-least : (l : List ℕ) (c : ℕ) → take (min (length l) c) l ≡ take c l
-take-least l c =
-    by-bool (leb (length l) c)
-    (λ t. let h = leb-true (length l) c t in
-    let e : min (length l) c ≡ length l = omega arith in
-    rw e (take-length l ∙ sym (take-all c l h)))
-    (λ t. let h = leb-false (length l) c t in
-    let e : min (length l) c ≡ c = omega arith in
-    rw e)
 
 ending-le : (short : Bool) (h : Halt) (n : ℕ) → length (endingOf short h n) ≤ longest
 ending-le short isFull n = omega arith

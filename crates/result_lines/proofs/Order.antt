@@ -31,7 +31,7 @@ unfolding rowsBelow
 below-le zero l = omega arith
 below-le (suc n) l = omega (arith, length-append (rowsBelow n l) (rowOf l n), row-le l n, below-le n l)
 
-few : (l : Results) (ordered : List Finish) → InOrder (rowsBelow 128 l) ordered → length ordered ≤ 128
+pub few : (l : Results) (ordered : List Finish) → InOrder (rowsBelow 128 l) ordered → length ordered ≤ 128
 few l ordered o =
     let e = o .same (λ (f : Finish). true) in
     omega (arith, e, all-pass ordered, all-pass (rowsBelow 128 l), below-le 128 l)

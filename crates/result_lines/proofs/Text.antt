@@ -23,7 +23,7 @@ last-le (Refused r) = omega (arith, end-le (pos (numberOf r) ∷ []))
 last-le TooLong = omega arith
 
 module _ (fs : List Finish) (few : length fs ≤ 128) (n : ℕ) (e : Ending) (xs : List ℕ) (at : ℕ) (room : at + longestList ≤ length xs) where
-  whole : at + length (listText fs n e) ≤ length xs
+  pub whole : at + length (listText fs n e) ≤ length xs
   whole =
       omega
       (arith, length-append (rowLines fs) (othersLine n ++ lastLine e), length-append (othersLine n) (lastLine e), rows-le fs, number-le n, last-le e)

@@ -1,13 +1,13 @@
 -- The window of what is at hand of a body: a call on it says what the call on the body's window says. Assumes nothing.
 use Prim.Native.Nat.{ℕ, suc, _+_, _-_, _≤_, _<_, min}
-use mathlib.Core.Path.{_≡_, refl, _∙_, ap}
+use mathlib.Core.Path.{_≡_, refl, sym, _∙_, ap}
 use mathlib.Core.Bool.{Bool, true, false}
 use mathlib.Core.List.{List, [], _++_, append-nil}
 use native.Mathlib.Omega.{arith}
 use borrow.Author.Tests.{lt-ltb, ltb-true, ltb-false, le-ltb, leb-true, leb-false}
 use lib.Dec.{ltb, leb}
 use lib.ListN.{length, take, drop, length-take, length-drop, drop-of-length-le}
-use lib.Seq.{take-all, take-take, take-append-add}
+use lib.Seq.{take-all, take-length, take-take, take-append-add}
 use Rattle.num.proofs.Cases.{by-bool}
 use Rattle.item.specs.Said.{Said, gives, more, finish, refuses}
 use Rattle.state.specs.Reading.{Event, readCall, readerAfter}
@@ -44,6 +44,17 @@ fits-on true w z n f = (f .0, omega (arith, length-drop n w, f .1))
 fits-on false w z n f = omega (arith, length-drop n w)
 
 -- ---- the window of a turn, and what is left behind it
+
+-- its end is no further than the bytes
+pub take-least : (l : List ℕ) (c : ℕ) → take (min (length l) c) l ≡ take c l
+take-least l c =
+    by-bool (leb (length l) c)
+    (λ t. let h = leb-true (length l) c t in
+    let e : min (length l) c ≡ length l = omega arith in
+    rw e (take-length l ∙ sym (take-all c l h)))
+    (λ t. let h = leb-false (length l) c t in
+    let e : min (length l) c ≡ c = omega arith in
+    rw e)
 
 abbrev pub reach : Arrived → ℕ
 reach (some n) = min full n

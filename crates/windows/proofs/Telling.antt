@@ -26,7 +26,7 @@ run-told short run = ap (λ (l : List Told). l ++ endingBy telling short (run .h
 -- ---- a body
 
 -- enough calls end with an answer that is no event
-not-full : (r : Reader) (body : List ℕ) → along windowCall (enough body) r body .halt ≡ isFull → ⊥
+pub not-full : (r : Reader) (body : List ℕ) → along windowCall (enough body) r body .halt ≡ isFull → ⊥
 not-full r body h =
     let e = calls.enough-calls windowCall window-within 1 r body in
     let l = ap (λ (run : Run). length (run .seen)) e in
