@@ -18,10 +18,11 @@ use Rattle.windows.proofs.Rounds.{rounds-print}
 use Rattle.windows.proofs.Telling.{events-told, run-told, not-full}
 use Rattle.results.specs.Results.{ticksAfter, finishesIn, noResults, keep, fits}
 use Rattle.results.specs.declared.Results.{Results}
+use Rattle.results.proofs.Ticks.{Open, open-now}
 use Rattle.listing.specs.Listing.{wholeRun, eventsOf, finishesOf, someSeen, listRun}
 use Rattle.ladder_turns.specs.Ladder.{nextOf, endsAs, Turned, turnOn, windowRun, endOf, ladderList, ladderLast}
 use Rattle.ladder_turns.specs.Rounds.{Climbed, onNext, listRounds, RoundsList}
-use Rattle.ladder_turns.proofs.Ticks.{Open, own, GoesOn, run-follows}
+use Rattle.ladder_turns.proofs.Ticks.{GoesOn, run-follows}
 use Rattle.ladder_turns.proofs.Climb.{climb, fits-before, climb-run}
 
 -- ---- what follows a turn
@@ -85,7 +86,7 @@ module _ (n : ℕ) (k : ℤ) (l : Results) (r : Reader) (i : Input) (o : Open k 
   same-list : keep l (finishesIn k (eventsOf (run .seen))) ≡ after
   same-list =
       ap (keep l)
-      (run-follows (allOf (isLastWindow (i .ended) (i .hand))) (enough (windowOf (i .hand))) k (r .scalars .tick) r (windowOf (i .hand)) o (own (r .scalars)) .same)
+      (run-follows (allOf (isLastWindow (i .ended) (i .hand))) (enough (windowOf (i .hand))) k (r .scalars .tick) r (windowOf (i .hand)) o (open-now (r .scalars)) .same)
 
   abbrev turned : Turned
   turned =
@@ -106,7 +107,7 @@ module _ (n : ℕ) (k : ℤ) (l : Results) (r : Reader) (i : Input) (o : Open k 
 
   pub left-open : GoesOn (run .halt) → Open tick (run .reader .scalars)
   left-open =
-      run-follows (allOf (isLastWindow (i .ended) (i .hand))) (enough (windowOf (i .hand))) k (r .scalars .tick) r (windowOf (i .hand)) o (own (r .scalars)) .left
+      run-follows (allOf (isLastWindow (i .ended) (i .hand))) (enough (windowOf (i .hand))) k (r .scalars .tick) r (windowOf (i .hand)) o (open-now (r .scalars)) .left
 
   pub one-round : (GoesOn (run .halt) → Same (again turned (wants (isShort (i .hand)) (run .halt))) tick after (nextTold n i run (wants (isShort (i .hand)) (run .halt))))
       → Same (listRounds (suc n) l r i) k l (roundsBy telling (suc n) room r i)
@@ -154,4 +155,4 @@ rounds-list v n hand pieces h f =
     let body = hand ++ allPieces pieces in
     let told : climb k noResults (roundsBy telling n room r i) ≡ record { list = ladderList v body; next = endsAs (ladderLast v body) } =
     ap (climb k noResults) (rounds-print telling v n room hand pieces h) ∙ body-climb v body in
-    rounds-climb n k noResults r i (own (r .scalars)) (subst (λ (c : Climbed). fits (c .list) ≡ true) (sym told) f) ∙ told
+    rounds-climb n k noResults r i (open-now (r .scalars)) (subst (λ (c : Climbed). fits (c .list) ≡ true) (sym told) f) ∙ told

@@ -23,7 +23,8 @@ use Rattle.results.proofs.Theorems.{keeps-on, finishes-go-on}
 use Rattle.listing.specs.Listing.{wholeRun, eventsOf, finishesOf, someSeen, ListRun, listRun}
 use Rattle.listing.specs.steps.Lists.{unchanged}
 use Rattle.listed.specs.Laws.{Together, BesideIsWhole}
-use Rattle.listed.proofs.Ticks.{Open, open-now, stays-open, call-ticked, finishes-at}
+use Rattle.results.proofs.Ticks.{Open, open-now, stays-open, call-ticked}
+use Rattle.listed.proofs.Ticks.{finishes-at}
 
 -- ---- runs
 

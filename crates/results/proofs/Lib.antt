@@ -7,4 +7,5 @@ pub mod Bests
 pub mod Listed
 pub mod Rises
 pub mod Lists
+pub mod Ticks
 pub mod Theorems
