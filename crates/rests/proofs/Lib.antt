@@ -1,3 +1,4 @@
 pub mod Slim
 pub mod Rests
 pub mod Others
+pub mod Inputs

@@ -9,7 +9,8 @@ ghost use Rattle.state.specs.Reading.{stepOf, closing};
 ghost use Rattle.state.specs.Slim.{slimStep};
 ghost use Rattle.state.specs.steps.Parts.{withRest};
 ghost use Rattle.state.specs.steps.Inside.{OnPlayers, OnInputs, memory, done};
-ghost use Rattle.rests.specs.steps.Kinds.{pairKind, isOther};
+ghost use Rattle.rests.specs.steps.Kinds.{pairKind, isOther, inputOf};
+ghost use Rattle.state.specs.Sorts.{sortOf};
 use fields::InputAnswer;
 use kinds::Cid;
 use kinds::Kind;
@@ -121,8 +122,33 @@ fn finished(s: Scalars, used: usize) -> Outcome
     }
 }
 
-// The rest of a record of a kind, and what it changes. The kinds that change no entry share one call, so that it is inlined: called
-// from several places, it would make the scalars of every record pass through memory.
+// Whether a kind is that of an input, and of which.
+enum InputOf {
+    Input { new: bool },
+    NoInput,
+}
+
+fn input_of(kind: Kind) -> InputOf
+    ensures { λ r. ⌜ r ≡ inputOf (sortOf kind) ⌝ }
+{
+    match kind {
+        Kind::PlayerDiff(_) => InputOf::NoInput,
+        Kind::Finish => InputOf::NoInput,
+        Kind::TickSkip => InputOf::NoInput,
+        Kind::PlayerNew(_) => InputOf::NoInput,
+        Kind::PlayerOld(_) => InputOf::NoInput,
+        Kind::InputDiff => InputOf::Input { new: false },
+        Kind::InputNew => InputOf::Input { new: true },
+        Kind::Message => InputOf::NoInput,
+        Kind::Join => InputOf::NoInput,
+        Kind::Drop => InputOf::NoInput,
+        Kind::ConsoleCommand => InputOf::NoInput,
+        Kind::Ex => InputOf::NoInput,
+    }
+}
+
+// The rest of a record of a kind, and what it changes. The inputs share one call, and so do the kinds that change no entry, so that it is
+// inlined: called from several places, it would make the scalars and the event of every record pass through memory.
 pub fn with_record(
     s: Scalars,
     marks: &mut [u8; 128],
@@ -150,13 +176,16 @@ pub fn with_record(
         Kind::PlayerOld(cid) => {
             return players::player_old(ticks::named(s, cid), marks, xs, ys, cid, at);
         }
-        Kind::InputDiff => return with_input(s, held, inputs, input, former, false, w, at, last),
-        Kind::InputNew => return with_input(s, held, inputs, input, former, true, w, at, last),
+        Kind::InputDiff => {}
+        Kind::InputNew => {}
         Kind::Message => {}
         Kind::Join => {}
         Kind::Drop => {}
         Kind::ConsoleCommand => {}
         Kind::Ex => {}
     }
-    with_other(s, kind, w, at, last)
+    let InputOf::Input { new } = input_of(kind) else {
+        return with_other(s, kind, w, at, last);
+    };
+    with_input(s, held, inputs, input, former, new, w, at, last)
 }

@@ -5,6 +5,8 @@ use Rattle.kinds.specs.declared.Kind.{Kind}
 use Rattle.kinds.specs.declared.Kind.the-variants as kinds
 use Rattle.state.specs.Sorts.{Sort, sortOf}
 use Rattle.state.specs.Sorts as sorts
+use Rattle.rests.specs.declared.InputOf.{InputOf}
+use Rattle.rests.specs.declared.InputOf.the-variants.{Input, NoInput}
 
 abbrev pub pairKind : Bool → ℤ → Kind
 pairKind true cid = kinds.PlayerNew cid
@@ -20,3 +22,11 @@ otherSort (sorts.other ex) = true
 
 abbrev pub isOther : Kind → Bool
 isOther k = otherSort (sortOf k)
+
+-- an input, and which
+abbrev pub inputOf : Sort → InputOf
+inputOf (sorts.player p c) = NoInput
+inputOf (sorts.input new) = Input new
+inputOf sorts.skip = NoInput
+inputOf sorts.finish = NoInput
+inputOf (sorts.other ex) = NoInput
