@@ -17,26 +17,21 @@ use Rattle.calls.proofs.Singles.{more-leaves}
 use Rattle.calls.proofs.Runs.{first-seen, follow}
 use Rattle.calls.proofs.Theorems.{few-events, enough-calls}
 use Rattle.listed.specs.Listed.{bodyRun}
-use Rattle.listed.specs.Laws.{Ends, BodyEnds, RefusedListed}
+use Rattle.listed.specs.Laws.{Ends, BodyEnds, UpTo, RefusedListed}
 
 -- ---- a refusal
-
-pub record Stops (run before : Run) (w : List ℕ) (last : Bool) (k : ℕ) (vs : List ℤ) : Type 0 where
-  pub halt : before .halt ≡ isFull
-  pub seen : before .seen ≡ run .seen
-  pub next : readCall (before .reader) (drop (before .used) w) last .said ≡ refuses k vs
 
 module _ (c : ℕ) (r : Reader) (w : List ℕ) (last : Bool) (k : ℕ) (vs : List ℤ) where
   abbrev t : Step
   t = readCall r w last
 
-  one-first : (e : Event) (n : ℕ) → t .said ≡ gives e n → (run : Run) → Stops run (calls (length (run .seen)) (readerAfter t) (drop n w) last) (drop n w) last k vs
-      → Stops (before (first-seen (allOf last) c r w e n) run) (calls (suc (length (run .seen))) r w last) w last k vs
+  one-first : (e : Event) (n : ℕ) → t .said ≡ gives e n → (run : Run) → UpTo run (calls (length (run .seen)) (readerAfter t) (drop n w) last) (drop n w) last k vs
+      → UpTo (before (first-seen (allOf last) c r w e n) run) (calls (suc (length (run .seen))) r w last) w last k vs
   unfolding along
   one-first e n s run h =
       let x = first-seen (allOf last) c r w e n in
       let q = calls (length (run .seen)) (readerAfter t) (drop n w) last in
-      subst (λ (a : Said Event). Stops (before x run) (follow (allOf last) (length (run .seen)) r w a) w last k vs) (sym s)
+      subst (λ (a : Said Event). UpTo (before x run) (follow (allOf last) (length (run .seen)) r w a) w last k vs) (sym s)
       (record {
         halt = h .halt;
         seen = ap (λ (xs : List Seen). x ∷ xs) (h .seen);
@@ -45,8 +40,8 @@ module _ (c : ℕ) (r : Reader) (w : List ℕ) (last : Bool) (k : ℕ) (vs : Lis
 
   stops-said : (a : Said Event) → t .said ≡ a → follow (allOf last) c r w a .halt ≡ isRefused k vs
       → ((n : ℕ) → calls c (readerAfter t) (drop n w) last .halt ≡ isRefused k vs
-      → Stops (calls c (readerAfter t) (drop n w) last) (calls (length (calls c (readerAfter t) (drop n w) last .seen)) (readerAfter t) (drop n w) last) (drop n w) last k vs)
-      → Stops (follow (allOf last) c r w a) (calls (length (follow (allOf last) c r w a .seen)) r w last) w last k vs
+      → UpTo (calls c (readerAfter t) (drop n w) last) (calls (length (calls c (readerAfter t) (drop n w) last .seen)) (readerAfter t) (drop n w) last) (drop n w) last k vs)
+      → UpTo (follow (allOf last) c r w a) (calls (length (follow (allOf last) c r w a .seen)) r w last) w last k vs
   unfolding along
   stops-said (gives e n) s h again = one-first e n s (calls c (readerAfter t) (drop n w) last) (again n h)
   stops-said more s h again = let z : _≡_ {A = ℕ} 0 1 = cc in absurd (omega arith)
@@ -54,7 +49,7 @@ module _ (c : ℕ) (r : Reader) (w : List ℕ) (last : Bool) (k : ℕ) (vs : Lis
   stops-said (refuses j us) s h again = record { halt = refl; seen = refl; next = cc }
 
 pub stops : (c : ℕ) (r : Reader) (w : List ℕ) (last : Bool) (k : ℕ) (vs : List ℤ) → calls c r w last .halt ≡ isRefused k vs
-    → Stops (calls c r w last) (calls (length (calls c r w last .seen)) r w last) w last k vs
+    → UpTo (calls c r w last) (calls (length (calls c r w last .seen)) r w last) w last k vs
 unfolding along
 stops zero r w last k vs h = let z : _≡_ {A = ℕ} 0 1 = cc in absurd (omega arith)
 stops (suc c) r w last k vs h =
@@ -62,9 +57,7 @@ stops (suc c) r w last k vs h =
     (λ n q. stops c (readerAfter (readCall r w last)) (drop n w) last k vs q)
 
 pub refused-listed : RefusedListed
-refused-listed v body k vs h =
-    let s = stops (enough body) (emptyReader v) body true k vs h in
-    record { halt = s .halt; seen = s .seen; next = s .next }
+refused-listed v body k vs h = stops (enough body) (emptyReader v) body true k vs h
 
 -- ---- the end of a body
 

@@ -149,11 +149,10 @@ module _ (l : Results) (r : Reader) (a b : List ℕ) (last : Bool) where
   wants-counts true x h = (refl, h)
   wants-counts false x h = let z : _≡_ {A = ℕ} 0 1 = cc in absurd (omega arith)
 
-  together : (h : wholeRun r a false .halt ≡ wantsMore) → fits (keep l (finishesOf r (wholeRun r a false))) ≡ true
-      → fits (keep l (finishesOf r (wholeRun r (a ++ b) last))) ≡ true
+  together : (h : wholeRun r a false .halt ≡ wantsMore) → fits (keep l (finishesOf r (wholeRun r (a ++ b) last))) ≡ true
       → let x = answered (wholeRun r a false) (keep l (finishesOf r (wholeRun r a false))) in
       Together x (listRun (x .list) (x .reader) (wholeRun (x .reader) (drop (x .used) a ++ b) last)) (listRun l r (wholeRun r (a ++ b) last))
-  together h f g =
+  together h g =
       let j = runs-join r a b last h in
       let both = both-kept r a b last h l in
       let m = keep l (finishesOf r (wholeRun r a false)) in
@@ -172,4 +171,4 @@ beside-is-whole l r a b last h g =
     let run = wholeRun r a false in
     let w = wants-counts l r a b last (fits (keep l (finishesOf r run))) (answered run (keep l (finishesOf r run))) h in
     subst (λ (x : ListRun). Together x (listRun (x .list) (x .reader) (wholeRun (x .reader) (drop (x .used) a ++ b) last)) (listRun l r (wholeRun r (a ++ b) last)))
-    (counts l r run (w .0)) (together l r a b last (w .1) (w .0) g)
+    (counts l r run (w .0)) (together l r a b last (w .1) g)

@@ -69,12 +69,12 @@ abbrev pub FinishesInBytes : Type 0
 FinishesInBytes = (v : Version) (body : List ℕ) → 16 * length (bodyFinishes v body) ≤ length body
 
 -- a refused body is listed up to its refusal: as many calls as it has events give these and no refusal, and the next one is the refused
-pub record UpTo (v : Version) (body : List ℕ) (k : ℕ) (vs : List ℤ) (before : Run) : Type 0 where
+pub record UpTo (run before : Run) (bytes : List ℕ) (last : Bool) (k : ℕ) (vs : List ℤ) : Type 0 where
   pub halt : before .halt ≡ isFull
-  pub seen : before .seen ≡ bodyRun v body .seen
-  pub next : readCall (before .reader) (drop (before .used) body) true .said ≡ refuses k vs
+  pub seen : before .seen ≡ run .seen
+  pub next : readCall (before .reader) (drop (before .used) bytes) last .said ≡ refuses k vs
 
 abbrev pub RefusedListed : Type 0
 RefusedListed =
     (v : Version) (body : List ℕ) (k : ℕ) (vs : List ℤ) → bodyRun v body .halt ≡ isRefused k vs
-    → UpTo v body k vs (calls (length (bodyRun v body .seen)) (emptyReader v) body true)
+    → UpTo (bodyRun v body) (calls (length (bodyRun v body .seen)) (emptyReader v) body true) body true k vs

@@ -46,7 +46,9 @@ module _ (l : Results) where
           record {
             fits = sym (s .0);
             list =
-                (λ _. λ i. resultsWith ((h .marks ∙ ap (λ (x : Results). x .marks) left) i) ((h .times ∙ ap (λ (x : Results). x .times) left) i) ((h .ticks ∙ ap (λ (x : Results). x .ticks) left) i) (s .1 i));
+                λ _. λ i.
+                resultsWith ((h .marks ∙ ap (λ (x : Results). x .marks) left) i) ((h .times ∙ ap (λ (x : Results). x .times) left) i)
+                ((h .ticks ∙ ap (λ (x : Results). x .ticks) left) i) (s .1 i);
             tick = next;
           }
 

@@ -38,6 +38,7 @@ use Rattle.listing.proofs.Beside.{Behind, begun, one-more, ended, past}
 abbrev pub measure : List ℕ → ℕ → Scalars → ℕ
 measure w used s = 5 * (length w - used) + rank s
 
+-- s, m, l and k are what the calls so far left of reader, list and tick; so many calls are left as are enough
 pub record Going (run : Run) (w : List ℕ) (last : Bool) (l₀ : Results) (r₀ : Reader) (s : Scalars) (m : Memory) (l : Results) (k : ℤ) (used : ℕ) (gave : Bool) : Type 0 where
   pub within : used ≤ length w
   pub sound : Sound (readerOf s m)
