@@ -60,22 +60,6 @@ fn read_on(buf: &mut [u8], hand: Hand) -> Fed {
     }
 }
 
-fn wants(after: After) -> bool {
-    match after {
-        After::GoesOn => false,
-        After::Wants => true,
-        After::Ends(_) => false,
-    }
-}
-
-fn ends(after: After) -> bool {
-    match after {
-        After::GoesOn => false,
-        After::Wants => false,
-        After::Ends(_) => true,
-    }
-}
-
 // A turn on the bytes at hand.
 fn one_turn(left: Left, buf: &[u8]) -> Left {
     let list = left.list;
@@ -90,7 +74,7 @@ fn one_turn(left: Left, buf: &[u8]) -> Left {
         reader: next_reader,
         hand: feed::pass(hand, turned.used),
         after,
-        goes: !ends(after),
+        goes: !after.ends(),
     }
 }
 
@@ -98,7 +82,7 @@ fn one_turn(left: Left, buf: &[u8]) -> Left {
 fn with_read(left: Left, buf: &mut [u8]) -> Left {
     let after = left.after;
     let mut next = left;
-    if wants(after) {
+    if after.wants() {
         let fed = read_on(buf, left.hand);
         let hand = fed.hand;
         next.hand = hand;

@@ -1,7 +1,7 @@
 -- The ladder program on the bytes at hand: one turn; its list and its text of a whole body. docs/FORMAT.md, "The ladder program".
 use Prim.Native.Nat.{ℕ, _+_, _≤_}
 use mathlib.Core.Path.{_≡_}
-use mathlib.Core.Bool.{Bool, cond}
+use mathlib.Core.Bool.{Bool, true, false, cond}
 use mathlib.Core.List.{List, _++_}
 use lib.ListN.{length, take, drop}
 use Rattle.refusal.specs.Numbers.{numberOf}
@@ -37,6 +37,18 @@ nextOf short isFull gave = goesOn
 nextOf short wantsMore gave = cond short wantsBytes (cond gave goesOn (endsAs windowTooLong))
 nextOf short finishes gave = endsAs finished
 nextOf short (isRefused k vs) gave = endsAs (refusedWith k)
+
+-- a read follows
+abbrev pub readFollows : Next → Bool
+readFollows goesOn = false
+readFollows wantsBytes = true
+readFollows (endsAs x) = false
+
+-- nothing follows
+abbrev pub isOver : Next → Bool
+isOver goesOn = false
+isOver wantsBytes = false
+isOver (endsAs x) = true
 
 -- the list, the reader and the bytes used of a turn, and what follows it
 pub record Turned : Type 0 where

@@ -3,7 +3,7 @@ ghost use mathlib.Core.Path.{_≡_};
 ghost use Prim.Native.Nat.{min};
 ghost use Rattle.calls.specs.Along.{wantsMore};
 ghost use Rattle.listing.specs.Listing.{haltOf};
-ghost use Rattle.ladder_turns.specs.Ladder.{nextOf, nextIs, turnOn, turnedIs};
+ghost use Rattle.ladder_turns.specs.Ladder.{nextOf, readFollows, isOver, nextIs, turnOn, turnedIs};
 use lines::Ending;
 use listing::End;
 use results::Results;
@@ -16,6 +16,28 @@ pub enum After {
     GoesOn,
     Wants,
     Ends(Ending),
+}
+
+impl After {
+    pub fn wants(self) -> bool
+        ensures { λ r. ⌜ r ≡ readFollows (nextIs self) ⌝ }
+    {
+        match self {
+            After::GoesOn => false,
+            After::Wants => true,
+            After::Ends(_) => false,
+        }
+    }
+
+    pub fn ends(self) -> bool
+        ensures { λ r. ⌜ r ≡ isOver (nextIs self) ⌝ }
+    {
+        match self {
+            After::GoesOn => false,
+            After::Wants => false,
+            After::Ends(_) => true,
+        }
+    }
 }
 
 // What a turn leaves.

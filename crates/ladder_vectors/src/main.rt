@@ -39,22 +39,6 @@ struct Left {
     ended: bool,
 }
 
-fn wants(after: After) -> bool {
-    match after {
-        After::GoesOn => false,
-        After::Wants => true,
-        After::Ends(_) => false,
-    }
-}
-
-fn ends(after: After) -> bool {
-    match after {
-        After::GoesOn => false,
-        After::Wants => false,
-        After::Ends(_) => true,
-    }
-}
-
 fn one_turn(left: Left, body: &[u8]) -> Left {
     let list = left.list;
     let reader = left.reader;
@@ -66,9 +50,9 @@ fn one_turn(left: Left, body: &[u8]) -> Left {
     Left {
         list: next_list,
         reader: next_reader,
-        hand: come(feed::pass(hand, turned.used), wants(after), body.len()),
+        hand: come(feed::pass(hand, turned.used), after.wants(), body.len()),
         after,
-        ended: ends(after),
+        ended: after.ends(),
     }
 }
 
