@@ -37,7 +37,7 @@ impl Results {
 }
 
 // Whether an event is a finish.
-pub enum FinishOf {
+enum FinishOf {
     Finish { cid: i32, time: i32 },
     NoFinish,
 }
@@ -96,7 +96,7 @@ fn finish_in(item: Item) -> FinishOf
 }
 
 // The finish that an event is, whatever tick is open.
-pub fn finish_of(event: Event) -> FinishOf
+fn finish_of(event: Event) -> FinishOf
     ensures { λ r. ⌜ FinishOfEvent (eventIs event) r ⌝ }
 {
     match event {
