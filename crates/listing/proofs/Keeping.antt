@@ -10,7 +10,7 @@ use Rattle.refusal.specs.declared.Refusal.{Refusal}
 use Rattle.refusal.specs.declared.Refusal.the-variants.{BadState}
 use Rattle.state.specs.Reading.{Event}
 use Rattle.state.proofs.Numbers.{picks-first}
-use Rattle.results.specs.Results.{Finish, finishOf, tickAfter, resultsWith, keep, fits, Keeps}
+use Rattle.results.specs.Results.{Finish, finishOf, resultsWith, keep, fits, Keeps}
 use Rattle.results.specs.declared.Results.{Results}
 use Rattle.results.specs.declared.Counted.{Counted}
 use Rattle.results.specs.declared.Counted.the-variants.{Others, Refused}
@@ -34,11 +34,11 @@ module _ (l : Results) where
   said-refused true r m e = cc
   said-refused false r m e = refl
 
-  module _ (k t : ℤ) (e : Event) (next : t ≡ tickAfter k e) {r : Counted} {marks : List ℕ} {times ticks : List ℤ}
+  module _ (k : ℤ) (e : Event) {r : Counted} {marks : List ℕ} {times ticks : List ℤ}
       (h : Keeps l (finishOf k e) r marks times ticks)
     where
       pub beside-others : (n : ℕ) → r ≡ Others n
-          → KeepsEvent l k e (record { fits = true; others = n; tick = t }) (resultsWith marks times ticks n)
+          → KeepsEvent l k e (record { fits = true; others = n }) (resultsWith marks times ticks n)
       beside-others n q =
           let after = keep l (finishOf k e) in
           let s = said-others (fits after) n (after .others) (sym q ∙ h .said) in
@@ -49,14 +49,12 @@ module _ (l : Results) where
                 λ _. λ i.
                 resultsWith ((h .marks ∙ ap (λ (x : Results). x .marks) left) i) ((h .times ∙ ap (λ (x : Results). x .times) left) i)
                 ((h .ticks ∙ ap (λ (x : Results). x .ticks) left) i) (s .1 i);
-            tick = next;
           }
 
-      pub beside-refused : (x : Refusal) (n : ℕ) (l₁ : Results) → r ≡ Refused x → KeepsEvent l k e (record { fits = false; others = n; tick = t }) l₁
+      pub beside-refused : (x : Refusal) (n : ℕ) (l₁ : Results) → r ≡ Refused x → KeepsEvent l k e (record { fits = false; others = n }) l₁
       beside-refused x n l₁ q =
           let after = keep l (finishOf k e) in
           record {
             fits = sym (said-refused (fits after) x (after .others) (sym q ∙ h .said));
             list = λ f. absurd (false≢true f);
-            tick = next;
           }

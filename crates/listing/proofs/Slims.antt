@@ -1,4 +1,4 @@
--- An event without the arguments that stand beside a command is the same finish, and the same tick is open behind it. Assumes nothing.
+-- An event without the arguments that stand beside a command is the same finish. Assumes nothing.
 use mathlib.Core.Path.{_≡_, refl}
 use mathlib.Core.List.{List, [], _∷_}
 use native.Mathlib.Omega.{arith}
@@ -18,7 +18,7 @@ use Rattle.item.specs.declared.Tag.the-variants.{Plain, Named, Other}
 use Rattle.state.specs.Reading.{Event}
 use Rattle.state.specs.Slim.{slim}
 use Rattle.rests.proofs.Slim.{slim-same}
-use Rattle.results.specs.Results.{finish, isPlayerFinish, numberAt, finishIn, finishOf, tickAfter}
+use Rattle.results.specs.Results.{finish, isPlayerFinish, numberAt, finishIn, finishOf}
 
 -- PlayerFinish has two numbers, and they stand in the record; every other record is no finish
 module _ (k : ℤ) (vs : List (Value Part)) where
@@ -41,6 +41,3 @@ finish-own k c = by-tag (c .tag)
 
 pub slim-finish : (k : ℤ) (e : Event) → finishOf k (slim e) ≡ finishOf k e
 slim-finish k e = slim-same (finishOf k) (finish-own k) e
-
-pub slim-tick : (k : ℤ) (e : Event) → tickAfter k (slim e) ≡ tickAfter k e
-slim-tick k e = slim-same (tickAfter k) (λ c. refl) e

@@ -15,7 +15,7 @@ use Rattle.state.specs.Reading.{Event, goodCall, readCall}
 use Rattle.state.specs.Views.{eventIs}
 use Rattle.state.specs.Slim.{saidIs, slimStep}
 use Rattle.state.specs.steps.Inside.{done}
-use Rattle.state.specs.Laws.{usedIn, Sound}
+use Rattle.state.specs.Laws.{usedIn, Ticked, Sound}
 use Rattle.state.specs.declared.Scalars.{Scalars}
 use Rattle.state.specs.declared.Reader.{Reader}
 use Rattle.state.specs.declared.Event as code
@@ -31,25 +31,28 @@ use Rattle.results.specs.declared.Results.{Results}
 use Rattle.listing.specs.Listing.{ListRun, wholeRun, listRun}
 use Rattle.listing.specs.steps.Lists.{KeepsEvent, unchanged}
 use Rattle.listing.specs.declared.Kept.{Kept}
-use Rattle.listing.proofs.Slims.{slim-finish, slim-tick}
+use Rattle.results.proofs.Ticks.{Open, open-now, stays-open, finish-behind, call-ticked}
+use Rattle.listing.proofs.Slims.{slim-finish}
 use Rattle.listing.proofs.Beside.{Behind, begun, one-more, ended, past}
 
 -- what falls with each event
 abbrev pub measure : List ℕ → ℕ → Scalars → ℕ
 measure w used s = 5 * (length w - used) + rank s
 
--- s, m, l and k are what the calls so far left of reader, list and tick; so many calls are left as are enough
-pub record Going (run : Run) (w : List ℕ) (last : Bool) (l₀ : Results) (r₀ : Reader) (s : Scalars) (m : Memory) (l : Results) (k : ℤ) (used : ℕ) (gave : Bool) : Type 0 where
+-- s, m and l are what the calls so far left of reader and list, tick the one that the events opened; so many calls are left as are enough
+pub record Going (run : Run) (w : List ℕ) (last : Bool) (l₀ : Results) (r₀ : Reader) (s : Scalars) (m : Memory) (l : Results) (used : ℕ) (gave : Bool) : Type 0 where
   pub within : used ≤ length w
   pub sound : Sound (readerOf s m)
   pub fitting : fits l ≡ true
   pub left : ℕ
   pub many : measure w used s < left
-  pub behind : Behind run (calls left (readerOf s m) (drop used w) last) l₀ r₀ l k used gave
+  pub tick : ℤ
+  pub opened : Open tick s
+  pub behind : Behind run (calls left (readerOf s m) (drop used w) last) l₀ r₀ l tick used gave
 
 module _ (w : List ℕ) (last : Bool) (l : Results) (s : Scalars) (m : Memory) where
   pub starts : Sound (readerOf s m) → fits l ≡ true
-      → Going (wholeRun (readerOf s m) w last) w last l (readerOf s m) s m l (s .tick) 0 false
+      → Going (wholeRun (readerOf s m) w last) w last l (readerOf s m) s m l 0 false
   starts sound f =
       record {
         within = omega arith;
@@ -57,11 +60,13 @@ module _ (w : List ℕ) (last : Bool) (l : Results) (s : Scalars) (m : Memory) w
         fitting = f;
         left = enough w;
         many = omega (arith, rank-le s);
+        tick = s .tick;
+        opened = open-now s;
         behind = begun _ l (readerOf s m);
       }
 
-module _ {run : Run} {w : List ℕ} {last : Bool} {l₀ : Results} {r₀ : Reader} {s : Scalars} {m : Memory} {l : Results} {k : ℤ} {used : ℕ}
-    {gave : Bool} (g : Going run w last l₀ r₀ s m l k used gave) (o : Outcome) (m' : Memory)
+module _ {run : Run} {w : List ℕ} {last : Bool} {l₀ : Results} {r₀ : Reader} {s : Scalars} {m : Memory} {l : Results} {used : ℕ}
+    {gave : Bool} (g : Going run w last l₀ r₀ s m l used gave) (o : Outcome) (m' : Memory)
     (e : done o m' ≡ slimStep (goodCall s m (take (length w - used) (drop used w)) last))
   where
     fewer : ℕ
@@ -69,6 +74,9 @@ module _ {run : Run} {w : List ℕ} {last : Bool} {l₀ : Results} {r₀ : Reade
 
     call : done o m' ≡ slimStep (goodCall s m (drop used w) last)
     call = rw (rest-is w used) at e
+
+    abbrev k : ℤ
+    k = g .tick
 
     next : Behind run (calls (suc fewer) (readerOf s m) (drop used w) last) l₀ r₀ l k used gave
     unfolding fewer
@@ -98,19 +106,24 @@ module _ {run : Run} {w : List ℕ} {last : Bool} {l₀ : Results} {r₀ : Reade
       pub less : measure w (used + n) (o .scalars) < measure w used s
       less = omega (arith, falls, rw a at in-window)
 
-      finish-is : finishOf k (x .event) ≡ finishOf k (eventIs v)
+      ticked : Ticked (x .event) s (o .scalars)
       unfolding x
-      finish-is = sym (slim-finish k (gave-it .event)) ∙ ap (finishOf k) (gave-it .own)
+      ticked =
+          subst (λ (q : Reader). Ticked (gave-it .event) s (q .scalars)) (sym (left-is s m (drop used w) last (g .sound) o m' call))
+          (call-ticked (readerOf s m) (drop used w) last (gave-it .event) n (gave-it .said))
 
-      tick-is : tickAfter k (x .event) ≡ tickAfter k (eventIs v)
+      finish-is : finishOf k (x .event) ≡ finishOf (o .scalars .tick) (eventIs v)
       unfolding x
-      tick-is = sym (slim-tick k (gave-it .event)) ∙ ap (tickAfter k) (gave-it .own)
+      finish-is =
+          finish-behind k s (o .scalars) (x .event) ticked (g .opened)
+          ∙ sym (slim-finish (o .scalars .tick) (gave-it .event))
+          ∙ ap (finishOf (o .scalars .tick)) (gave-it .own)
 
-      module _ (c : Kept) (l₁ : Results) (h : KeepsEvent l k (eventIs v) c l₁) where
+      module _ (c : Kept) (l₁ : Results) (h : KeepsEvent l (o .scalars .tick) (eventIs v) c l₁) where
         pub full : c .fits ≡ false → unchanged BadState l₀ r₀ ≡ listRun l₀ r₀ run
         full f = past x _ (ap (λ (fs : List Finish). fits (keep l fs)) finish-is ∙ sym (h .fits) ∙ f) after
 
-        pub turn : c .fits ≡ true → Going run w last l₀ r₀ (o .scalars) m' l₁ (c .tick) (used + n) true
+        pub turn : c .fits ≡ true → Going run w last l₀ r₀ (o .scalars) m' l₁ (used + n) true
         unfolding fewer x
         turn f =
             record {
@@ -119,7 +132,9 @@ module _ {run : Run} {w : List ℕ} {last : Bool} {l₀ : Results} {r₀ : Reade
               fitting = ap fits (h .list f) ∙ sym (h .fits) ∙ f;
               left = fewer;
               many = omega (arith, g .many, less);
-              behind = rw (h .list f, h .tick, ← finish-is, ← tick-is) (rw drop-drop at (one-more x _ after));
+              tick = tickAfter k (x .event);
+              opened = stays-open k s (o .scalars) (x .event) ticked (g .opened);
+              behind = rw (h .list f, ← finish-is) (rw drop-drop at (one-more x _ after));
             }
 
     -- the calls end

@@ -42,14 +42,13 @@ struct CallsRead {
     scalars: Scalars,
 }
 
-// Whether a list's count could rise, the count and the tick behind an event.
+// Whether a list's count could rise at an event, and the count behind it.
 struct Kept {
     fits: bool,
     others: u64,
-    tick: i32,
 }
 
-// An event beside a lent list.
+// An event beside a lent list, in the tick that is open.
 fn keep_beside(
     event: Event,
     tick: i32,
@@ -60,17 +59,14 @@ fn keep_beside(
 ) -> Kept
     ensures { λ r. ⌜ KeepsEvent (resultsWith (now (marks .entry)) (now (times .entry)) (now (ticks .entry)) others) tick (eventIs event) r (resultsWith (now (marks .exit)) (now (times .exit)) (now (ticks .exit)) (r .others)) ⌝ }
 {
-    let next = results::tick_after(tick, event);
     match results::keep_event(event, tick, others, marks, times, ticks) {
         Counted::Others(n) => Kept {
             fits: true,
             others: n,
-            tick: next,
         },
         Counted::Refused(_) => Kept {
             fits: false,
             others,
-            tick: next,
         },
     }
 }
@@ -120,7 +116,6 @@ fn list_calls(
         ⌝ }
 {
     let mut s = scalars;
-    let mut tick = scalars.tick;
     let mut count = others;
     let mut used: usize = 0;
     let mut gave = false;
@@ -142,12 +137,11 @@ fn list_calls(
         s = next;
         match answer {
             Answer::Event { event, used: n } => {
-                let kept = keep_beside(event, tick, count, listed, times, ticks);
+                let kept = keep_beside(event, s.tick, count, listed, times, ticks);
                 if !kept.fits {
                     return stopped(false, End::More, gave, used, count, s);
                 }
                 count = kept.others;
-                tick = kept.tick;
                 used += n;
                 gave = true;
             }

@@ -48,6 +48,16 @@ module _ (k : ℤ) (s t : Scalars) where
   finish-at (input c former) h o = refl
   finish-at (other c) h o = ap (λ (j : ℤ). finishOf j (other c)) (o (h .0))
 
+  -- the call leaves that tick
+  pub finish-behind : (e : Event) → Ticked e s t → Open k s → finishOf k e ≡ finishOf (t .tick) e
+  finish-behind (tickStart j) h o = refl
+  finish-behind (tickEnd j) h o = refl
+  finish-behind (playerNew c x y) h o = refl
+  finish-behind (playerChange c x y old-x old-y) h o = refl
+  finish-behind (playerOld c x y) h o = refl
+  finish-behind (input c former) h o = refl
+  finish-behind (other c) h o = ap (λ (j : ℤ). finishOf j (other c)) (o (h .0) ∙ sym (h .1 .1))
+
 -- ---- one call
 
 abbrev TickedSaid : Said Event → Scalars → Scalars → Type 0

@@ -6,7 +6,7 @@ ghost use lib.Dec.{leb};
 ghost use Rattle.refusal.specs.declared.Refusal.the-variants.{BadState};
 ghost use Rattle.item.specs.Contents.{itemOf};
 ghost use Rattle.state.specs.Views.{eventIs};
-ghost use Rattle.results.specs.Results.{isPlayerFinish, finishOf, tickAfter, resultsWith, noResults, Keeps};
+ghost use Rattle.results.specs.Results.{isPlayerFinish, finishOf, resultsWith, noResults, Keeps};
 ghost use Rattle.results.specs.declared.Counted.the-variants as counted;
 ghost use Rattle.results.specs.steps.Keeps.{FinishInRecord, FinishOfEvent, KeepsRow};
 use extensions::Extension;
@@ -107,21 +107,6 @@ fn finish_of(event: Event) -> FinishOf
         Event::PlayerOld { .. } => FinishOf::NoFinish,
         Event::Input { .. } => FinishOf::NoFinish,
         Event::Record(item) => finish_in(item),
-    }
-}
-
-// The tick that is open behind an event.
-pub fn tick_after(tick: i32, event: Event) -> i32
-    ensures { λ r. ⌜ r ≡ tickAfter tick (eventIs event) ⌝ }
-{
-    match event {
-        Event::TickStart(t) => t,
-        Event::TickEnd(_) => tick,
-        Event::PlayerNew { .. } => tick,
-        Event::PlayerChange { .. } => tick,
-        Event::PlayerOld { .. } => tick,
-        Event::Input { .. } => tick,
-        Event::Record(_) => tick,
     }
 }
 

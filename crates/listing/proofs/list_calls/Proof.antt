@@ -14,38 +14,37 @@ use Rattle.listing.proofs.list_calls.Statement.{statement}
 use Rattle.listing.proofs.list_calls.Tie as tie
 
 abbrev Inv-loop : tie.InvT-loop
-Inv-loop marks₀ xs₀ ys₀ held₀ inputs₀ input₀ former₀ w last others listed₀ times₀ ticks₀ s₀ tick₀ count₀ used₀ gave₀ marks xs ys held inputs input former listed times ticks s tick count used gave =
+Inv-loop marks₀ xs₀ ys₀ held₀ inputs₀ input₀ former₀ w last others listed₀ times₀ ticks₀ s₀ count₀ used₀ gave₀ marks xs ys held inputs input former listed times ticks s count used gave =
     Going (wholeRun (readerWith s₀ (entriesWith marks₀ xs₀ ys₀ held₀ inputs₀)) w last) w last (resultsWith listed₀ times₀ ticks₀ others)
     (readerWith s₀ (entriesWith marks₀ xs₀ ys₀ held₀ inputs₀)) s (memory marks xs ys held inputs input former)
-    (resultsWith listed times ticks count) (toZ w32 tick) used gave
+    (resultsWith listed times ticks count) used gave
 
 abbrev μ-loop : tie.MeasureT-loop
-μ-loop marks₀ xs₀ ys₀ held₀ inputs₀ input₀ former₀ w last others listed₀ times₀ ticks₀ s₀ tick₀ count₀ used₀ gave₀ marks xs ys held inputs input former listed times ticks s tick count used gave =
+μ-loop marks₀ xs₀ ys₀ held₀ inputs₀ input₀ former₀ w last others listed₀ times₀ ticks₀ s₀ count₀ used₀ gave₀ marks xs ys held inputs input former listed times ticks s count used gave =
     measure w used s
 
 loop-holds : tie.Need-loop-holds Inv-loop μ-loop
 loop-holds c =
-    let a = c .before .before .args in
-    let tick : toZ w32 (ofZ w32 (a .scalars .tick)) ≡ a .scalars .tick = search needs in
-    rw tick
+    let a = c .before .args in
     (starts (a .w .now) (a .last) (resultsWith (a .listed .now) (a .times .now) (a .ticks .now) (a .others)) (a .scalars)
-    (memory (a .marks .now) (a .xs .now) (a .ys .now) (a .held .now) (a .inputs .now) (a .input .now) (a .former .now)) (c .before .before .pre)
+    (memory (a .marks .now) (a .xs .now) (a .ys .now) (a .held .now) (a .inputs .now) (a .input .now) (a .former .now)) (c .before .pre)
     (le-leb (a .others) 18446744073709551615 (omega arith)))
 
 returns : tie.Need-returns Inv-loop μ-loop
 returns c =
     let k = c .before .before .before in
-    let o = k .before .before .before .before .before .before .before .before in
-    let g = k .before .before .before .before .before .answer .given in
+    let o = k .before .before .before .before .before .before .before .before .before in
+    let g = k .before .before .before .before .before .before .answer .given in
+    let tick : toZ w32 (ofZ w32 (o .good-call .result .scalars .tick)) ≡ o .good-call .result .scalars .tick = search needs in
     rw (c .stopped .ensures)
-    (full (o .before .before .before .before .before .before .before .before .before .before .loop .inv) (o .good-call .result) _ (o .good-call .ensures) (g .0 .0) (g .0 .1 .0) (g .1) (k .keep-beside .result) _ (k .keep-beside .ensures)
+    (full (o .before .before .before .before .before .before .before .before .before .before .loop .inv) (o .good-call .result) _ (o .good-call .ensures) (g .0 .0) (g .0 .1 .0) (g .1) (k .keep-beside .result) _ (rw tick at (k .keep-beside .ensures))
     (not-true (k .keep-beside .result .fits) (c .before .if1 .taken)))
 
 add-used : tie.Need-add-used Inv-loop μ-loop
 add-used c =
     let o = c .before .before .before .before .before .before .before .before .before .before .before in
     let u = rw (c .before .before .before .before .before .before .before .before .answer .given .1) at (in-window (o .before .before .before .before .before .before .before .before .before .before .loop .inv) (o .good-call .result) _ (o .good-call .ensures)) in
-    record { fits = omega (arith, u, o .before .before .before .before .before .before .before .before .before .before .before .before .before .good) }
+    record { fits = omega (arith, u, o .before .before .before .before .before .before .before .before .before .before .before .before .good) }
 
 loop-less : tie.Need-loop-less Inv-loop μ-loop
 loop-less c =
@@ -55,13 +54,12 @@ loop-less c =
 
 loop-again : tie.Need-loop-again Inv-loop μ-loop
 loop-again c =
-    let k = c .before .before .before in
-    let o = k .before .before .before .before .before .before .before .before in
-    let g = k .before .before .before .before .before .answer .given in
-    let tick : toZ w32 (ofZ w32 (k .keep-beside .result .tick)) ≡ k .keep-beside .result .tick = search needs in
-    rw tick
-    (turn (o .before .before .before .before .before .before .before .before .before .before .loop .inv) (o .good-call .result) _ (o .good-call .ensures) (g .0 .0) (g .0 .1 .0) (g .1) (k .keep-beside .result) _ (k .keep-beside .ensures)
-    (not-false (k .keep-beside .result .fits) (c .before .if1 .left)))
+    let k = c .before .before in
+    let o = k .before .before .before .before .before .before .before .before .before in
+    let g = k .before .before .before .before .before .before .answer .given in
+    let tick : toZ w32 (ofZ w32 (o .good-call .result .scalars .tick)) ≡ o .good-call .result .scalars .tick = search needs in
+    turn (o .before .before .before .before .before .before .before .before .before .before .loop .inv) (o .good-call .result) _ (o .good-call .ensures) (g .0 .0) (g .0 .1 .0) (g .1) (k .keep-beside .result) _ (rw tick at (k .keep-beside .ensures))
+    (not-false (k .keep-beside .result .fits) (c .if1 .left))
 
 returns-2 : tie.Need-returns-2 Inv-loop μ-loop
 returns-2 c =
@@ -72,7 +70,7 @@ add-stopped : tie.Need-add-stopped Inv-loop μ-loop
 add-stopped c =
     let o = c .before .before .before .before in
     let u = rw (c .before .answer2 .given .1) at (in-window (o .before .before .before .before .before .before .before .before .before .before .loop .inv) (o .good-call .result) _ (o .good-call .ensures)) in
-    record { fits = omega (arith, u, o .before .before .before .before .before .before .before .before .before .before .before .before .before .good) }
+    record { fits = omega (arith, u, o .before .before .before .before .before .before .before .before .before .before .before .before .good) }
 
 returns-3 : tie.Need-returns-3 Inv-loop μ-loop
 returns-3 c =

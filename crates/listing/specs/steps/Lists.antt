@@ -12,18 +12,17 @@ use Rattle.state.specs.declared.Entries.{Entries}
 use Rattle.state.specs.declared.Scalars.{Scalars}
 use Rattle.state.specs.declared.Reader.{Reader}
 use Rattle.calls.specs.Along.{isRefused}
-use Rattle.results.specs.Results.{finishOf, tickAfter, keep, fits}
+use Rattle.results.specs.Results.{finishOf, keep, fits}
 use Rattle.results.specs.declared.Results.{Results}
 use Rattle.listing.specs.Listing.{ListRun, haltOf}
 use Rattle.listing.specs.declared.CallsRead.{CallsRead}
 use Rattle.listing.specs.declared.End.{End}
 use Rattle.listing.specs.declared.Kept.{Kept}
 
--- an event beside a list, in tick k: whether the count could rise; the list, where it could, and the tick behind the event
+-- an event beside a list, in tick k: whether the count could rise, and the list, where it could
 pub record KeepsEvent (l : Results) (k : ℤ) (e : Event) (r : Kept) (l₁ : Results) : Type 0 where
   pub fits : r .fits ≡ fits (keep l (finishOf k e))
   pub list : r .fits ≡ true → l₁ ≡ keep l (finishOf k e)
-  pub tick : r .tick ≡ tickAfter k e
 
 abbrev pub callsRead : Bool → End → Bool → ℕ → ℕ → Scalars → CallsRead
 callsRead fits end gave used others s =
