@@ -65,6 +65,7 @@ fn measure(file: &Path, rounds: u32) -> io::Result<Report> {
         }
         report.programs[0].run(ORACLE, &["replay"], file)?;
         report.programs[1].run(REPLAY, &[], file)?;
+        report.list.time(|| readers::list(*version, body))?;
         report.ladder.run(LADDER, &[], file)?;
     }
     report.check()?;

@@ -10,6 +10,15 @@ extern "C" {
     fn jolzerv_count_each(second: bool, body: *const u8, length: usize) -> u64;
     fn jolzerv_count_lent(second: bool, body: *const u8, length: usize) -> u64;
     fn jolzerv_count_many(second: bool, body: *const u8, length: usize) -> u64;
+    fn jolzerv_list_body(
+        second: bool,
+        body: *const u8,
+        length: usize,
+        clients: *mut [i32; 128],
+        times: *mut [i32; 128],
+        ticks: *mut [i32; 128],
+        two: *mut [u64; 2],
+    ) -> usize;
 }
 
 pub fn libtw2(version: u8, body: &[u8]) -> io::Result<u64> {
@@ -39,4 +48,24 @@ pub fn lent(version: u8, body: &[u8]) -> io::Result<u64> {
 pub fn many(version: u8, body: &[u8]) -> io::Result<u64> {
     // SAFETY: a pointer and a length of one slice, which the call only reads
     Ok(unsafe { jolzerv_count_many(version == 2, body.as_ptr(), body.len()) })
+}
+
+/// The results list by the proved reader: how many rows it has.
+pub fn list(version: u8, body: &[u8]) -> io::Result<u64> {
+    let (mut clients, mut times, mut ticks) = ([0; 128], [0; 128], [0; 128]);
+    let mut two = [0; 2];
+    // SAFETY: a pointer and a length of one slice, which the call only reads, and pointers to four arrays that it fills
+    let rows = unsafe {
+        jolzerv_list_body(
+            version == 2,
+            body.as_ptr(),
+            body.len(),
+            &mut clients,
+            &mut times,
+            &mut ticks,
+            &mut two,
+        )
+    };
+    black_box((&clients, &times, &ticks, &two));
+    Ok(rows as u64)
 }

@@ -49,6 +49,7 @@ const READERS: [&str; 4] = [
     "one event, by value",
 ];
 const PROGRAMS: [&str; 2] = ["libtw2 replay", "replay"];
+const LIST: &str = "results list";
 const LADDER: &str = "ladder";
 
 pub struct Report {
@@ -57,7 +58,8 @@ pub struct Report {
     /// libtw2's first: the others are held to it.
     pub readers: [Best; 4],
     pub programs: [Best; 2],
-    /// libtw2 has no such program. It is held to the reader of many events a call, which it is built on.
+    /// libtw2 has no results list. The call on a body and the program are held to the reader of many events a call.
+    pub list: Best,
     pub ladder: Best,
 }
 
@@ -68,6 +70,7 @@ impl Report {
             bytes,
             readers: READERS.map(Best::new),
             programs: PROGRAMS.map(Best::new),
+            list: Best::new(LIST),
             ladder: Best::new(LADDER),
         }
     }
@@ -93,6 +96,10 @@ impl Report {
             let line = self.line(best, &self.programs[0], "libtw2's");
             println!("{line}  {}", memory(best));
         }
+        println!(
+            "{}",
+            self.line(&self.list, &self.readers[1], "count_many's")
+        );
         let line = self.line(&self.ladder, &self.readers[1], "count_many's");
         println!("{line}  {}", memory(&self.ladder));
     }
@@ -120,6 +127,7 @@ pub fn growth(sort: &str, reports: &[Report]) {
     for (index, name) in PROGRAMS.iter().enumerate() {
         print_growth(sort, name, reports, |r| r.programs[index].nanoseconds());
     }
+    print_growth(sort, LIST, reports, |r| r.list.nanoseconds());
     print_growth(sort, LADDER, reports, |r| r.ladder.nanoseconds());
 }
 

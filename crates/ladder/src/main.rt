@@ -60,40 +60,22 @@ fn read_on(buf: &mut [u8], hand: Hand) -> Fed {
     }
 }
 
-// A turn on the bytes at hand.
-fn one_turn(left: Left, buf: &[u8]) -> Left {
-    let list = left.list;
-    let reader = left.reader;
-    let hand = left.hand;
-    let turned = ladder_turns::turn(list, reader, feed::window(buf, hand), hand.ended);
-    let next_list = turned.list;
-    let next_reader = turned.reader;
-    let after = turned.after;
-    Left {
-        list: next_list,
-        reader: next_reader,
-        hand: feed::pass(hand, turned.used),
-        after,
-        goes: !after.ends(),
-    }
-}
-
-// A read, where more bytes are wanted.
-fn with_read(left: Left, buf: &mut [u8]) -> Left {
-    let after = left.after;
-    let mut next = left;
+// A read, where a turn wants more bytes.
+fn fed_on(after: After, buf: &mut [u8], hand: Hand) -> Fed {
     if after.wants() {
-        let fed = read_on(buf, left.hand);
-        let hand = fed.hand;
-        next.hand = hand;
-        next.goes = !fed.failed;
+        return read_on(buf, hand);
     }
-    next
+    Fed {
+        hand,
+        failed: false,
+    }
 }
 
-// A turn, and a read where it wants more bytes.
-fn round(left: Left, buf: &mut [u8]) -> Left {
-    with_read(one_turn(left, buf), buf)
+fn goes_on(after: After, failed: bool) -> bool {
+    if failed {
+        return false;
+    }
+    !after.ends()
 }
 
 // The turns that may follow: fewer than there were, and none where none follows.
@@ -107,15 +89,34 @@ fn fewer(turns: u64, goes: bool) -> u64
     0
 }
 
-// Turns until one is the last. Each gives an event, the end or a read; their number is there to bound them.
+// Turns until one is the last. Each gives an event, the end or a read; their number is there to bound them. List and reader stay in this
+// function: handed on in a struct, they would be copied at each step.
 fn climb(first: Left, buf: &mut [u8]) -> Left {
-    let mut left = first;
+    let mut list = first.list;
+    let mut reader = first.reader;
+    let mut hand = first.hand;
+    let mut after = first.after;
     let mut turns: u64 = fewer(18446744073709551615, first.goes);
     while 0 < turns {
-        left = round(left, buf);
-        turns = fewer(turns, left.goes);
+        let turned = ladder_turns::turn(list, reader, feed::window(buf, hand), hand.ended);
+        let next_list = turned.list;
+        let next_reader = turned.reader;
+        let next_after = turned.after;
+        let fed = fed_on(next_after, buf, feed::pass(hand, turned.used));
+        let next_hand = fed.hand;
+        list = next_list;
+        reader = next_reader;
+        after = next_after;
+        hand = next_hand;
+        turns = fewer(turns, goes_on(next_after, fed.failed));
     }
-    left
+    Left {
+        list,
+        reader,
+        hand,
+        after,
+        goes: false,
+    }
 }
 
 fn print_list(list: Results, ending: Ending) {

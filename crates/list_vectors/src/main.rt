@@ -1,11 +1,10 @@
-// Lists bodies that are whole in memory, and prints their lists as the ladder program does. Beside each, silent unless it is wrong:
+// Lists bodies that are whole in memory, by the linked call, and prints their lists as the ladder program does. Beside each, silent unless it is wrong:
 // what stands behind the rows in the arrays lent; the list that is made event by event.
 // Standard input holds inputs one behind the other, each after its length in three bytes, the low one first: a version byte, then a body.
 use kinds::Version;
 use kinds::VersionOf;
 use libc::STDOUT_FILENO;
 use lines::Ending;
-use listing::End;
 use refusal::Refusal;
 use results::Counted;
 use results::Results;
@@ -57,12 +56,15 @@ fn print_others(n: u64) {
     say(b"\n");
 }
 
-fn print_end(end: End) {
-    match end {
-        End::More => say(b"more\n"),
-        End::Finish => print(texts::last(Ending::Finish)),
-        End::Refused(why) => print(texts::refused(why)),
+// 0 stands for finish.
+fn print_end(number: u64) {
+    if number == 0 {
+        print(texts::last(Ending::Finish));
+        return;
     }
+    say(b"refused ");
+    io::print_decimal(STDOUT_FILENO, number);
+    say(b"\n");
 }
 
 // ---- the same event by event
@@ -157,17 +159,31 @@ fn has_rows(
 
 // ---- inputs
 
+fn is_second(version: Version) -> bool {
+    match version {
+        Version::V1 => false,
+        Version::V2 => true,
+    }
+}
+
 fn run_body(version: Version, body: &[u8]) {
     let mut clients = [CLIENT; 128];
     let mut times = [TIME; 128];
     let mut ticks = [TICK; 128];
-    let listed = listed::list_body(version, body, &mut clients, &mut times, &mut ticks);
-    let end = listed.end;
-    print_rows(listed.rows, &clients, &times, &ticks);
-    print_others(listed.others);
-    print_end(end);
+    let mut two = [7u64; 2];
+    let rows = list_linked::jolzerv_list_body(
+        is_second(version),
+        body,
+        &mut clients,
+        &mut times,
+        &mut ticks,
+        &mut two,
+    );
+    print_rows(rows, &clients, &times, &ticks);
+    print_others(two[0]);
+    print_end(two[1]);
     let list = by_events(version, body);
-    if !(has_rows(list, listed.rows, &clients, &times, &ticks) & (list.others == listed.others)) {
+    if !(has_rows(list, rows, &clients, &times, &ticks) & (list.others == two[0])) {
         say(b"event by event differs\n");
     }
 }

@@ -6,13 +6,14 @@ use Rattle.ladder.proofs.climb.Statement.{statement}
 use Rattle.ladder.proofs.climb.Tie as tie
 
 abbrev Inv-loop : tie.InvT-loop
-Inv-loop buf₀ left₀ turns₀ buf left turns = length buf ≡ length buf₀
+Inv-loop buf₀ list₀ reader₀ hand₀ after₀ turns₀ buf list reader hand after turns = length buf ≡ length buf₀
 
 abbrev μ-loop : tie.MeasureT-loop
-μ-loop buf₀ left₀ turns₀ buf left turns = turns
+μ-loop buf₀ list₀ reader₀ hand₀ after₀ turns₀ buf list reader hand after turns = turns
 
 pub climb-spec : {M : Type 1} → statement M
 climb-spec =
     tie.close
-    (tie.spec Inv-loop μ-loop (λ c κs. search needs) (λ c. search needs) (λ c κs. search needs) (λ c κs. search needs) (λ c. search needs)
+    (tie.spec Inv-loop μ-loop (λ c κs. search needs) (λ c. search needs) (λ c κs. search needs) (λ c κs. search needs)
+    (λ c κs. search needs) (λ c κs. search needs) (λ c κs. search needs) (λ c κs. search needs) (λ c. search needs)
     (λ c. search needs) (λ c. search needs) (λ c. search needs))
