@@ -8,7 +8,7 @@ use borrow.Author.Tests.{leb-true, le-leb}
 use lib.IntN.{ℤ}
 use Rattle.state.specs.Reading.{Event}
 use Rattle.calls.specs.Calls.{Seen}
-use Rattle.windows.specs.Telling.{Told, anEvent, theEnd, eventsTold}
+use Rattle.windows.specs.Telling.{Heard, anEvent, theEnd, eventsTold}
 use Rattle.results.specs.Results.{finishOf, tickAfter, ticksAfter, finishesIn, keep, fits}
 use Rattle.results.specs.declared.Results.{Results}
 use Rattle.results.proofs.Theorems.{count-rises, keeps-on}
@@ -18,12 +18,12 @@ use Rattle.ladder_turns.specs.Rounds.{Climbed}
 
 -- ---- from an open tick and a list on
 
-unfoldable pub climb : ℤ → Results → List Told → Climbed
+unfoldable pub climb : ℤ → Results → List Heard → Climbed
 climb k l [] = record { list = l; next = goesOn }
 climb k l (anEvent e ∷ ts) = climb (tickAfter k e) (keep l (finishOf k e)) ts
 climb k l (theEnd x ∷ ts) = record { list = l; next = endsAs x }
 
-pub climb-rises : (k : ℤ) (l : Results) (ts : List Told) → l .others ≤ climb k l ts .list .others
+pub climb-rises : (k : ℤ) (l : Results) (ts : List Heard) → l .others ≤ climb k l ts .list .others
 unfolding climb
 climb-rises k l [] = omega arith
 climb-rises k l (anEvent e ∷ ts) =
@@ -31,13 +31,13 @@ climb-rises k l (anEvent e ∷ ts) =
 climb-rises k l (theEnd x ∷ ts) = omega arith
 
 -- so if the count fits at the end, it did before
-pub fits-before : (k : ℤ) (l : Results) (ts : List Told) → fits (climb k l ts .list) ≡ true → fits l ≡ true
+pub fits-before : (k : ℤ) (l : Results) (ts : List Heard) → fits (climb k l ts .list) ≡ true → fits l ≡ true
 fits-before k l ts h =
     let a = leb-true (climb k l ts .list .others) 18446744073709551615 h in
     le-leb (l .others) 18446744073709551615 (omega (arith, climb-rises k l ts))
 
 -- the events of a run, and what is told behind them
-pub climb-run : (k : ℤ) (l : Results) (xs : List Seen) (ts : List Told)
+pub climb-run : (k : ℤ) (l : Results) (xs : List Seen) (ts : List Heard)
     → climb k l (eventsTold xs ++ ts) ≡ climb (ticksAfter k (eventsOf xs)) (keep l (finishesIn k (eventsOf xs))) ts
 unfolding climb keep finishesIn ticksAfter
 climb-run k l [] ts = refl

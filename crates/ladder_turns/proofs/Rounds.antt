@@ -13,7 +13,7 @@ use Rattle.calls.specs.Calls.{Seen}
 use Rattle.calls.specs.Along.{Halt, isFull, wantsMore, finishes, isRefused, Run, allOf, calls, enough}
 use Rattle.windows.specs.Windows.{windowOf, isShort, isLastWindow, ends, wants, runBy, endingBy, printedFrom, printedOf}
 use Rattle.windows.specs.Rounds.{Input, inputAfter, roundOf, lastRound, wantsRead, roundsBy, allPieces}
-use Rattle.windows.specs.Telling.{Told, telling, eventsTold}
+use Rattle.windows.specs.Telling.{Heard, telling, eventsTold}
 use Rattle.windows.proofs.Rounds.{rounds-print}
 use Rattle.windows.proofs.Telling.{events-told, run-told, not-full}
 use Rattle.results.specs.Results.{ticksAfter, finishesIn, noResults, keep, fits}
@@ -31,11 +31,11 @@ use Rattle.ladder_turns.proofs.Climb.{climb, fits-before, climb-run}
 abbrev room : List ℕ → ℕ
 room hand = 5 * length (windowOf hand) + 4
 
-abbrev Same : Climbed → ℤ → Results → List Told → Type 0
+abbrev Same : Climbed → ℤ → Results → List Heard → Type 0
 Same c k l ts = fits (climb k l ts .list) ≡ true → c ≡ climb k l ts
 
 -- the turn after it, or how the reading ends
-follow : (s : Bool) (h : Halt) (xs : List Seen) (t : Turned) (again : Bool → Climbed) (k : ℤ) (next : Bool → List Told)
+follow : (s : Bool) (h : Halt) (xs : List Seen) (t : Turned) (again : Bool → Climbed) (k : ℤ) (next : Bool → List Heard)
     → (GoesOn h → Same (again (wants s h)) k (t .list) (next (wants s h)))
     → Same (onNext t again (nextOf s h (someSeen xs))) k (t .list) (endingBy telling s h (length xs) ++ cond (ends s h (length xs)) [] (next (wants s h)))
 unfolding climb
@@ -48,7 +48,7 @@ follow s (isRefused j vs) xs t again k next f = λ _. refl
 
 -- ---- a round
 
-abbrev nextTold : ℕ → Input → Run → Bool → List Told
+abbrev nextTold : ℕ → Input → Run → Bool → List Heard
 nextTold n i run w = roundsBy telling n room (run .reader) (inputAfter w (run .used) i)
 
 -- the run of a round is that of a turn
@@ -68,8 +68,8 @@ unfolding roundsBy
 round-told n r i =
     let run = wholeRun r (windowOf (i .hand)) (isLastWindow (i .ended) (i .hand)) in
     let s = isShort (i .hand) in
-    let rest : Run → List Told = λ x. cond (lastRound i x) [] (nextTold n i x (wantsRead i x)) in
-    ap (λ (x : Run). runBy telling s x ++ rest x) (same-run r i) ∙ ap (λ (l : List Told). l ++ rest run) (run-told s run)
+    let rest : Run → List Heard = λ x. cond (lastRound i x) [] (nextTold n i x (wantsRead i x)) in
+    ap (λ (x : Run). runBy telling s x ++ rest x) (same-run r i) ∙ ap (λ (l : List Heard). l ++ rest run) (run-told s run)
     ∙ append-assoc (eventsTold (run .seen)) (endingBy telling s (run .halt) (length (run .seen))) (rest run)
 
 module _ (n : ℕ) (k : ℤ) (l : Results) (r : Reader) (i : Input) (o : Open k (r .scalars)) where
@@ -100,7 +100,7 @@ module _ (n : ℕ) (k : ℤ) (l : Results) (r : Reader) (i : Input) (o : Open k 
   unfolding listRounds
   fitting h = rw h
 
-  pub told-behind : List Told
+  pub told-behind : List Heard
   told-behind =
       let s = isShort (i .hand) in
       endingBy telling s (run .halt) (length (run .seen)) ++ cond (ends s (run .halt) (length (run .seen))) [] (nextTold n i run (wants s (run .halt)))
@@ -144,7 +144,7 @@ body-climb v body =
     let run = windowRun v body in
     let k = emptyReader v .scalars .tick in
     let ending = endingBy telling false (run .halt) 0 in
-    ap (λ (l : List Told). climb k noResults (l ++ ending)) (events-told (run .seen)) ∙ climb-run k noResults (run .seen) ending
+    ap (λ (l : List Heard). climb k noResults (l ++ ending)) (events-told (run .seen)) ∙ climb-run k noResults (run .seen) ending
     ∙ ends-so (run .halt) (ticksAfter k (eventsOf (run .seen))) (ladderList v body) (not-full (emptyReader v) body)
 
 pub rounds-list : RoundsList

@@ -64,15 +64,15 @@ turnOn l r bytes ended =
     record { list = t .list; reader = t .reader; used = t .used; next = nextOf (isShort bytes) (t .halt) (t .gave) }
 
 -- what the code answers
-abbrev pub lastOf : Ending → Last
-lastOf endings.Finish = finished
-lastOf (endings.Refused r) = refusedWith (numberOf r)
-lastOf endings.TooLong = windowTooLong
+abbrev pub lastIs : Ending → Last
+lastIs endings.Finish = finished
+lastIs (endings.Refused r) = refusedWith (numberOf r)
+lastIs endings.TooLong = windowTooLong
 
 abbrev pub nextIs : After → Next
 nextIs afters.GoesOn = goesOn
 nextIs afters.Wants = wantsBytes
-nextIs (afters.Ends e) = endsAs (lastOf e)
+nextIs (afters.Ends e) = endsAs (lastIs e)
 
 abbrev pub turnedIs : ListTurn → Turned
 turnedIs t = record { list = t .list; reader = t .reader; used = t .used; next = nextIs (t .after) }
@@ -104,7 +104,7 @@ pub record LadderText (v : Version) (body text : List ℕ) : Type 0 where
   pub ordered : List Finish
   pub order : InOrder (bestsBelow 128 (ladderFinishes v body)) ordered
   pub ending : Ending
-  pub last : lastOf ending ≡ ladderLast v body
+  pub last : lastIs ending ≡ ladderLast v body
   pub same : text ≡ listText ordered (othersIn (ladderFinishes v body)) ending
 
 -- such a text stands in a target at a place, with room around it; the answer is the place past it
@@ -118,5 +118,5 @@ pub record TextAt (v : Version) (body out₀ : List ℕ) (at : ℕ) (r : Wrote) 
 abbrev pub ListText : Type 0
 ListText =
     (v : Version) (body : List ℕ) (ending : Ending) (out₀ : List ℕ) (at : ℕ) (r : Wrote) (out₁ : List ℕ)
-    → lastOf ending ≡ ladderLast v body → at + longestList ≤ length out₀ → WritesList (ladderList v body) ending out₀ at r out₁
+    → lastIs ending ≡ ladderLast v body → at + longestList ≤ length out₀ → WritesList (ladderList v body) ending out₀ at r out₁
     → TextAt v body out₀ at r out₁

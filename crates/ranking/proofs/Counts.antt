@@ -12,7 +12,7 @@ use Rattle.num.proofs.Cases.{by-bool}
 use Rattle.state.specs.State.{sameInt}
 use Rattle.results.specs.Results.{Finish, best, bestsBelow}
 use Rattle.results.proofs.Bests.{KeptOf, kept-best}
-use Rattle.ranking.specs.Ranking.{numberOf}
+use Rattle.ranking.specs.Ranking.{howMany}
 use Rattle.ranking.specs.Laws.{ofClient}
 use Rattle.ranking.proofs.Order.{joined}
 
@@ -50,7 +50,7 @@ same-sym (negsuc a) (negsuc b) = eqb-sym a b
 -- ---- a client's row among the rows
 
 -- each row of the clients below n is among them
-pub row-among : (test : Finish → Bool) (fs : List Finish) (c n : ℕ) → c < n → numberOf test (best c fs) ≤ numberOf test (bestsBelow n fs)
+pub row-among : (test : Finish → Bool) (fs : List Finish) (c n : ℕ) → c < n → howMany test (best c fs) ≤ howMany test (bestsBelow n fs)
 unfolding bestsBelow
 row-among test fs c zero h = absurd (omega arith)
 row-among test fs c (suc n) h =
@@ -66,8 +66,8 @@ row-among test fs c (suc n) h =
 
 -- a finish is one of them
 finish-among : (test : Finish → Bool) (before : List Finish) (g : Finish) (after : List Finish)
-    → cond (test g) 1 0 ≤ numberOf test (before ++ g ∷ after)
-unfolding numberOf
+    → cond (test g) 1 0 ≤ howMany test (before ++ g ∷ after)
+unfolding howMany
 finish-among test before g after = omega (arith, joined test before (g ∷ after))
 
 -- those of a client
@@ -79,14 +79,14 @@ and-true true b e = e
 and-true false b e = refl
 
 -- a client's row is one of the client's finishes
-row-is-finish : (test : Finish → Bool) (c : ℕ) (fs kept : List Finish) → KeptOf c fs kept → numberOf test kept ≤ numberOf (both test c) fs
-unfolding numberOf
+row-is-finish : (test : Finish → Bool) (c : ℕ) (fs kept : List Finish) → KeptOf c fs kept → howMany test kept ≤ howMany (both test c) fs
+unfolding howMany
 row-is-finish test c fs [] k = omega arith
 row-is-finish test c fs (g ∷ []) k =
     let a = finish-among (both test c) (k .at .before) g (k .at .after) in
     let e : sameInt (g .client) (pos c) ≡ true = rw (k .client) (eq-eqb c c refl) in
     let b = and-true (test g) (sameInt (g .client) (pos c)) e in
-    let n : cond (test g) 1 0 ≤ numberOf (both test c) (k .at .before ++ g ∷ k .at .after) = rw b at a in
+    let n : cond (test g) 1 0 ≤ howMany (both test c) (k .at .before ++ g ∷ k .at .after) = rw b at a in
     rw (k .at .split) (omega (arith, n))
 row-is-finish test c fs (g ∷ x ∷ gs) k = absurd k
 
@@ -98,15 +98,15 @@ of-one : (b : Bool) (x y z : Bool) → cond x 1 0 + cond y 1 0 ≤ cond z 1 0 �
 of-one true x y z h = h
 of-one false x y z h = omega arith
 
-of-all : (test : Finish → Bool) (n : ℕ) (fs : List Finish) → numberOf (below test n) fs + numberOf (both test n) fs ≤ numberOf (below test (suc n)) fs
-unfolding numberOf
+of-all : (test : Finish → Bool) (n : ℕ) (fs : List Finish) → howMany (below test n) fs + howMany (both test n) fs ≤ howMany (below test (suc n)) fs
+unfolding howMany
 of-all test n [] = omega arith
 of-all test n (f ∷ fs) =
     let a = of-one (test f) (isBelow n (f .client)) (sameInt (f .client) (pos n)) (isBelow (suc n) (f .client)) (next-client n (f .client)) in
     omega (arith, a, of-all test n fs)
 
-pub rows-are-below : (test : Finish → Bool) (fs : List Finish) (n : ℕ) → numberOf test (bestsBelow n fs) ≤ numberOf (below test n) fs
-unfolding bestsBelow numberOf
+pub rows-are-below : (test : Finish → Bool) (fs : List Finish) (n : ℕ) → howMany test (bestsBelow n fs) ≤ howMany (below test n) fs
+unfolding bestsBelow howMany
 rows-are-below test fs zero = omega arith
 rows-are-below test fs (suc n) =
     omega (arith, joined test (bestsBelow n fs) (best n fs), rows-are-below test fs n, row-is-finish test n fs (best n fs) (kept-best n fs), of-all test n fs)
@@ -116,21 +116,21 @@ fewer true true = omega arith
 fewer true false = omega arith
 fewer false b = omega arith
 
-pub fewer-of : (test : Finish → Bool) (n : ℕ) (fs : List Finish) → numberOf (below test n) fs ≤ numberOf test fs
-unfolding numberOf
+pub fewer-of : (test : Finish → Bool) (n : ℕ) (fs : List Finish) → howMany (below test n) fs ≤ howMany test fs
+unfolding howMany
 fewer-of test n [] = omega arith
 fewer-of test n (f ∷ fs) = omega (arith, fewer (test f) (isBelow n (f .client)), fewer-of test n fs)
 
 -- ---- the rows of a client
 
-client-row : (z : ℤ) (c : ℕ) (fs kept : List Finish) → KeptOf c fs kept → numberOf (ofClient z) kept ≤ cond (sameInt z (pos c)) 1 0
-unfolding numberOf
+client-row : (z : ℤ) (c : ℕ) (fs kept : List Finish) → KeptOf c fs kept → howMany (ofClient z) kept ≤ cond (sameInt z (pos c)) 1 0
+unfolding howMany
 client-row z c fs [] k = omega arith
 client-row z c fs (g ∷ []) k = rw (k .client, same-sym (pos c) z) (omega arith)
 client-row z c fs (g ∷ x ∷ gs) k = absurd k
 
-pub client-rows : (z : ℤ) (fs : List Finish) (n : ℕ) → numberOf (ofClient z) (bestsBelow n fs) ≤ cond (isBelow n z) 1 0
-unfolding bestsBelow numberOf
+pub client-rows : (z : ℤ) (fs : List Finish) (n : ℕ) → howMany (ofClient z) (bestsBelow n fs) ≤ cond (isBelow n z) 1 0
+unfolding bestsBelow howMany
 client-rows z fs zero = omega arith
 client-rows z fs (suc n) =
     omega (arith, joined (ofClient z) (bestsBelow n fs) (best n fs), client-rows z fs n, client-row z n fs (best n fs) (kept-best n fs), next-client n z)
@@ -141,19 +141,19 @@ at-most-one false = omega arith
 
 -- ---- all rows
 
-pub all-pass : (fs : List Finish) → numberOf (λ (g : Finish). true) fs ≡ length fs
-unfolding numberOf
+pub all-pass : (fs : List Finish) → howMany (λ (g : Finish). true) fs ≡ length fs
+unfolding howMany
 all-pass [] = refl
 all-pass (f ∷ fs) = omega (arith, all-pass fs)
 
-kept-few : (c : ℕ) (fs kept : List Finish) → KeptOf c fs kept → numberOf (λ (g : Finish). true) kept ≤ 1
-unfolding numberOf
+kept-few : (c : ℕ) (fs kept : List Finish) → KeptOf c fs kept → howMany (λ (g : Finish). true) kept ≤ 1
+unfolding howMany
 kept-few c fs [] k = omega arith
 kept-few c fs (g ∷ []) k = omega arith
 kept-few c fs (g ∷ x ∷ gs) k = absurd k
 
-pub few-rows : (fs : List Finish) (n : ℕ) → numberOf (λ (g : Finish). true) (bestsBelow n fs) ≤ n
-unfolding bestsBelow numberOf
+pub few-rows : (fs : List Finish) (n : ℕ) → howMany (λ (g : Finish). true) (bestsBelow n fs) ≤ n
+unfolding bestsBelow howMany
 few-rows fs zero = omega arith
 few-rows fs (suc n) =
     omega (arith, joined (λ (g : Finish). true) (bestsBelow n fs) (best n fs), few-rows fs n, kept-few n fs (best n fs) (kept-best n fs))

@@ -15,7 +15,7 @@ use Rattle.results.specs.Results.{Finish, best, bestsBelow}
 use Rattle.results.specs.Laws.{Among, IsCounted, HasRow}
 use Rattle.results.proofs.Bests.{KeptOf, kept-best}
 use Rattle.results.proofs.Theorems.{every-finish-listed, first-lowest}
-use Rattle.ranking.specs.Ranking.{numberOf, InOrder}
+use Rattle.ranking.specs.Ranking.{howMany, InOrder}
 use Rattle.ranking.specs.Laws.{RowsOf, ofClient, noHigher, EveryFinish, EachRowIsFinish, AtMostOneRow, AtMost128}
 use Rattle.ranking.proofs.Order.{joined}
 use Rattle.ranking.proofs.Counts.{isBelow, row-among, rows-are-below, fewer-of, client-rows, at-most-one, few-rows, all-pass}
@@ -25,17 +25,17 @@ no-higher-row fs f h =
     let low = first-lowest (h .number) fs (h .row) [] (h .has) .1 in
     and-both (sameInt (h .row .client) (f .client)) (leZ (h .row .time) (f .time)) (rw (low .client, h .client) (eq-eqb (h .number) (h .number) refl)) (h .no-higher)
 
-has-row : (fs rows : List Finish) → RowsOf fs rows → (f : Finish) → HasRow f fs → 1 ≤ numberOf (noHigher f) rows
-unfolding numberOf
+has-row : (fs rows : List Finish) → RowsOf fs rows → (f : Finish) → HasRow f fs → 1 ≤ howMany (noHigher f) rows
+unfolding howMany
 has-row fs rows o f h =
     let a = row-among (noHigher f) fs (h .number) 128 (h .listed) in
-    let b : numberOf (noHigher f) (best (h .number) fs) ≡ 1 = rw (h .has, no-higher-row fs f h) in
+    let b : howMany (noHigher f) (best (h .number) fs) ≡ 1 = rw (h .has, no-higher-row fs f h) in
     omega (arith, a, b, o .same (noHigher f))
 
 pub every-finish : EveryFinish
 every-finish fs rows o f at = by-case (every-finish-listed f fs at)
   where
-    by-case : IsCounted f fs at ⊎ HasRow f fs → IsCounted f fs at ⊎ (1 ≤ numberOf (noHigher f) rows)
+    by-case : IsCounted f fs at ⊎ HasRow f fs → IsCounted f fs at ⊎ (1 ≤ howMany (noHigher f) rows)
     by-case (inl c) = inl c
     by-case (inr h) = inr (has-row fs rows o f h)
 

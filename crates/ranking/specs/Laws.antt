@@ -9,7 +9,7 @@ use lib.Signed.{leZ}
 use Rattle.state.specs.State.{sameInt}
 use Rattle.results.specs.Results.{Finish, bestsBelow}
 use Rattle.results.specs.Laws.{Among, IsCounted}
-use Rattle.ranking.specs.Ranking.{numberOf, InOrder}
+use Rattle.ranking.specs.Ranking.{howMany, InOrder}
 
 -- rows of finishes
 abbrev pub RowsOf : List Finish → List Finish → Type 0
@@ -25,15 +25,15 @@ noHigher f g = ofClient (f .client) g && leZ (g .time) (f .time)
 -- every finish is in the count, or its client has a row with a time no higher
 abbrev pub EveryFinish : Type 0
 EveryFinish =
-    (fs rows : List Finish) → RowsOf fs rows → (f : Finish) (at : Among f fs) → IsCounted f fs at ⊎ (1 ≤ numberOf (noHigher f) rows)
+    (fs rows : List Finish) → RowsOf fs rows → (f : Finish) (at : Among f fs) → IsCounted f fs at ⊎ (1 ≤ howMany (noHigher f) rows)
 
 -- each row is a finish: whatever is asked, no more rows than finishes are so
 abbrev pub EachRowIsFinish : Type 0
-EachRowIsFinish = (fs rows : List Finish) → RowsOf fs rows → (test : Finish → Bool) → numberOf test rows ≤ numberOf test fs
+EachRowIsFinish = (fs rows : List Finish) → RowsOf fs rows → (test : Finish → Bool) → howMany test rows ≤ howMany test fs
 
 -- a client has at most one row, so there are at most 128
 abbrev pub AtMostOneRow : Type 0
-AtMostOneRow = (fs rows : List Finish) → RowsOf fs rows → (c : ℤ) → numberOf (ofClient c) rows ≤ 1
+AtMostOneRow = (fs rows : List Finish) → RowsOf fs rows → (c : ℤ) → howMany (ofClient c) rows ≤ 1
 
 abbrev pub AtMost128 : Type 0
 AtMost128 = (fs rows : List Finish) → RowsOf fs rows → length rows ≤ 128

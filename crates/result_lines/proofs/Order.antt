@@ -9,12 +9,12 @@ use lib.ListN.{length, length-append, getD}
 use lib.IntN.{ℤ, pos}
 use Rattle.results.specs.Results.{Finish, finish, rowOf, rowsBelow}
 use Rattle.results.specs.declared.Results.{Results}
-use Rattle.ranking.specs.Ranking.{numberOf, InOrder, inFront, Ranks}
+use Rattle.ranking.specs.Ranking.{howMany, InOrder, inFront, Ranks}
 use Rattle.result_lines.specs.steps.Rows.{rowsIn}
 
 -- all rows pass the test that is always true
-all-pass : (fs : List Finish) → numberOf (λ (f : Finish). true) fs ≡ length fs
-unfolding numberOf
+all-pass : (fs : List Finish) → howMany (λ (f : Finish). true) fs ≡ length fs
+unfolding howMany
 all-pass [] = refl
 all-pass (f ∷ fs) = omega (arith, all-pass fs)
 

@@ -12,16 +12,16 @@ use Rattle.calls.specs.Calls.{Seen}
 use Rattle.calls.specs.Along.{along, enough, Halt, isFull, wantsMore, finishes, isRefused, Run}
 use Rattle.calls.proofs.Theorems as calls
 use Rattle.windows.specs.Windows.{Last, finished, refusedWith, windowTooLong, linesBy, endingBy, windowCall, printedFrom}
-use Rattle.windows.specs.Telling.{Told, anEvent, theEnd, telling, eventsTold, RunTold, ToldWhole, BodyTold}
+use Rattle.windows.specs.Telling.{Heard, anEvent, theEnd, telling, eventsTold, RunTold, ToldWhole, BodyTold}
 use Rattle.windows.proofs.Bound.{window-within}
 
 pub events-told : (xs : List Seen) → linesBy telling xs ≡ eventsTold xs
 unfolding flatMap
 events-told [] = refl
-events-told (x ∷ xs) = ap (λ (l : List Told). anEvent (x .event) ∷ l) (events-told xs)
+events-told (x ∷ xs) = ap (λ (l : List Heard). anEvent (x .event) ∷ l) (events-told xs)
 
 pub run-told : RunTold
-run-told short run = ap (λ (l : List Told). l ++ endingBy telling short (run .halt) (length (run .seen))) (events-told (run .seen))
+run-told short run = ap (λ (l : List Heard). l ++ endingBy telling short (run .halt) (length (run .seen))) (events-told (run .seen))
 
 -- ---- a body
 
@@ -35,14 +35,14 @@ not-full r body h =
 
 events-of : (xs : List Seen) → eventsTold xs ≡ map anEvent (map (λ (x : Seen). x .event) xs)
 events-of [] = refl
-events-of (x ∷ xs) = ap (λ (l : List Told). anEvent (x .event) ∷ l) (events-of xs)
+events-of (x ∷ xs) = ap (λ (l : List Heard). anEvent (x .event) ∷ l) (events-of xs)
 
 ending-with : (xs : List Seen) (l : Last) → ToldWhole (eventsTold xs ++ theEnd l ∷ [])
 ending-with xs l =
     record {
       events = map (λ (x : Seen). x .event) xs;
       last = l;
-      same = ap (λ (ts : List Told). ts ++ theEnd l ∷ []) (events-of xs);
+      same = ap (λ (ts : List Heard). ts ++ theEnd l ∷ []) (events-of xs);
     }
 
 one-end : (h : Halt) (xs : List Seen) → (h ≡ isFull → ⊥) → ToldWhole (eventsTold xs ++ endingBy telling false h 0)
@@ -55,5 +55,5 @@ pub body-told : BodyTold
 unfolding printedFrom
 body-told v body =
     let run = along windowCall (enough body) (emptyReader v) body in
-    subst (λ (l : List Told). ToldWhole (l ++ endingBy telling false (run .halt) 0)) (sym (events-told (run .seen)))
+    subst (λ (l : List Heard). ToldWhole (l ++ endingBy telling false (run .halt) 0)) (sym (events-told (run .seen)))
     (one-end (run .halt) (run .seen) (not-full (emptyReader v) body))

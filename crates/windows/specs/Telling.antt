@@ -11,14 +11,14 @@ use Rattle.calls.specs.Calls.{Seen}
 use Rattle.calls.specs.Along.{Run}
 use Rattle.windows.specs.Windows.{Last, Printer, endingBy, runBy, printedOf}
 
-pub data Told : Type 0 where
-  anEvent : Event → Told
-  theEnd : Last → Told
+pub data Heard : Type 0 where
+  anEvent : Event → Heard
+  theEnd : Last → Heard
 
-abbrev pub telling : Printer Told
+abbrev pub telling : Printer Heard
 telling = record { line = λ (e : Event) (ten : List ℤ). anEvent e ∷ []; last = λ (l : Last). theEnd l ∷ [] }
 
-abbrev pub eventsTold : List Seen → List Told
+abbrev pub eventsTold : List Seen → List Heard
 eventsTold xs = map (λ (x : Seen). anEvent (x .event)) xs
 
 -- of a run: its events, and then how it ends, if it does
@@ -28,7 +28,7 @@ RunTold =
     → runBy telling short run ≡ eventsTold (run .seen) ++ endingBy telling short (run .halt) (length (run .seen))
 
 -- of a body: some events, and then one end
-pub record ToldWhole (xs : List Told) : Type 0 where
+pub record ToldWhole (xs : List Heard) : Type 0 where
   pub events : List Event
   pub last : Last
   pub same : xs ≡ map anEvent events ++ theEnd last ∷ []
