@@ -18,6 +18,8 @@ use Rattle.state.specs.State.{sameInt, every, entriesWith, withPlayer, noEntrie
 use Rattle.state.specs.declared.Reader.{Reader}
 use Rattle.state.specs.declared.Pending.{Pending}
 use Rattle.state.specs.declared.Pending.the-variants as pendings
+use Rattle.state.specs.declared.Standing.{Standing}
+use Rattle.state.specs.declared.Standing.the-variants as standings
 use Rattle.state.specs.declared.Scalars.{Scalars}
 use Rattle.back.specs.declared.BoardTick.{BoardTick}
 use Rattle.back.specs.declared.BoardTick.the-variants as ticks
@@ -45,6 +47,11 @@ sameFlag false b = not b
 abbrev pub isSecond : Version → Bool
 isSecond versions.V1 = false
 isSecond versions.V2 = true
+
+abbrev pub standingNumber : Standing → ℕ
+standingNumber standings.Open = 0
+standingNumber standings.Finished = 1
+standingNumber standings.Refused = 2
 
 abbrev pub sameCid : Cid → Cid → Bool
 sameCid (cids.Of c) (cids.Of d) = sameInt c d
@@ -85,7 +92,7 @@ samePlaces a b = sameInt (a .tick) (b .tick) && sameInt (a .largest) (b .largest
 abbrev pub sameFlags : Scalars → Scalars → Bool
 sameFlags a b =
     sameFlag (isSecond (a .version)) (isSecond (b .version))
-    && (sameFlag (a .inside) (b .inside) && sameFlag (a .closed) (b .closed))
+    && (sameFlag (a .inside) (b .inside) && eqb (standingNumber (a .standing)) (standingNumber (b .standing)))
 
 abbrev pub sameKinds : Scalars → Scalars → Bool
 sameKinds a b = sameCid (a .remembered) (b .remembered) && samePending (a .pending) (b .pending)
@@ -103,6 +110,9 @@ boardTick ticks.NoTick = cids.NoCid
 abbrev pub versionIn : ℕ → Version
 versionIn b = cond (eqb b 1) versions.V1 versions.V2
 
+abbrev pub standingIn : ℕ → Standing
+standingIn b = cond (eqb b 1) standings.Finished (cond (eqb b 2) standings.Refused standings.Open)
+
 abbrev pub pendingOf : ℕ → ℤ → Pending
 pendingOf b cid =
     cond (eqb b 1) (pendings.Is (kinds.PlayerDiff cid))
@@ -117,7 +127,7 @@ scalarsIn s =
       remembered = cids.NoCid;
       largest = numberOf (getD s 2 0);
       pending = pendingOf (getD s 3 0) (numberOf (getD s 4 0));
-      closed = eqb (getD s 5 0) 1;
+      standing = standingIn (getD s 5 0);
     }
 
 -- the player of a client below 128

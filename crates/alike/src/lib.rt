@@ -13,6 +13,8 @@ ghost use Rattle.alike.specs.Alike.{
   sameEntries,
   sameFlag,
   isSecond,
+  standingNumber,
+  standingIn,
   sameCid,
   clientOf,
   pendingNumber,
@@ -41,6 +43,7 @@ use state::Entries;
 use state::Pending;
 use state::Reader;
 use state::Scalars;
+use state::Standing;
 
 fn same_mark(a: u8, b: u8) -> bool
     ensures { λ r. ⌜ r ≡ eqb a b ⌝ }
@@ -129,6 +132,23 @@ fn is_second(version: Version) -> bool
     }
 }
 
+// 0 open, 1 finished, 2 refused.
+fn standing_number(standing: Standing) -> u8
+    ensures { λ r. ⌜ r ≡ standingNumber standing ⌝ }
+{
+    match standing {
+        Standing::Open => 0,
+        Standing::Finished => 1,
+        Standing::Refused => 2,
+    }
+}
+
+fn same_standing(a: Standing, b: Standing) -> bool
+    ensures { λ r. ⌜ r ≡ eqb (standingNumber a) (standingNumber b) ⌝ }
+{
+    same_mark(standing_number(a), standing_number(b))
+}
+
 fn same_cid(a: Cid, b: Cid) -> bool
     ensures { λ r. ⌜ r ≡ sameCid a b ⌝ }
 {
@@ -207,9 +227,11 @@ fn same_flags(a: Scalars, b: Scalars) -> bool
 {
     let v = a.version;
     let w = b.version;
+    let x = a.standing;
+    let y = b.standing;
     good::both(
         same_flag(is_second(v), is_second(w)),
-        good::both(same_flag(a.inside, b.inside), same_flag(a.closed, b.closed)),
+        good::both(same_flag(a.inside, b.inside), same_standing(x, y)),
     )
 }
 
@@ -270,6 +292,19 @@ fn version_in(b: u8) -> Version
     Version::V2
 }
 
+// 1 finished, 2 refused, else open.
+fn standing_in(b: u8) -> Standing
+    ensures { λ r. ⌜ r ≡ standingIn b ⌝ }
+{
+    if b == 1 {
+        return Standing::Finished;
+    }
+    if b == 2 {
+        return Standing::Refused;
+    }
+    Standing::Open
+}
+
 // 1 a PlayerDiff, 2 a PlayerNew, 3 an extension, else none.
 fn pending_of(b: u8, cid: i32) -> Pending
     ensures { λ r. ⌜ r ≡ pendingOf b cid ⌝ }
@@ -286,7 +321,7 @@ fn pending_of(b: u8, cid: i32) -> Pending
     Pending::NoKind
 }
 
-// A version, a tick, a largest client, a pending kind and its client, closed or not, inside a tick or not.
+// A version, a tick, a largest client, a pending kind and its client, open or closed by which, inside a tick or not.
 fn scalars_in(s: &[u8]) -> Scalars
     ensures { λ r. ⌜ r ≡ scalarsIn (now (s .entry)) ⌝ }
 {
@@ -297,7 +332,7 @@ fn scalars_in(s: &[u8]) -> Scalars
         remembered: Cid::NoCid,
         largest: cases::number(s, 2),
         pending: pending_of(cases::byte(s, 3), cases::number(s, 4)),
-        closed: same_mark(cases::byte(s, 5), 1),
+        standing: standing_in(cases::byte(s, 5)),
     }
 }
 

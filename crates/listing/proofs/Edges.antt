@@ -8,6 +8,7 @@ use borrow.Author.Tests.{le-leb}
 use Rattle.refusal.specs.declared.Refusal.{Refusal}
 use Rattle.refusal.specs.declared.Refusal.the-variants.{BadState, Closed}
 use Rattle.state.specs.State.{goodReader}
+use Rattle.state.specs.Reading.{isClosed}
 use Rattle.state.specs.declared.Reader.{Reader}
 use Rattle.state.proofs.Numbers.{picks-first, picks-second}
 use Rattle.calls.specs.Along.{enough}
@@ -31,6 +32,6 @@ module _ (l : Results) (r : Reader) (w : List ℕ) (last : Bool) (count : l .oth
   unfolding manyCalls
   bad-reader g = nothing BadState (picks-second (goodReader r) _ _ g ∙ tested)
 
-  pub closed-reader : goodReader r ≡ true → r .scalars .closed ≡ true → unchanged Closed l r ≡ listRun l r (wholeRun r w last)
+  pub closed-reader : goodReader r ≡ true → isClosed (r .scalars .standing) ≡ true → unchanged Closed l r ≡ listRun l r (wholeRun r w last)
   unfolding manyCalls
-  closed-reader g c = nothing Closed (picks-first (r .scalars .closed) _ _ c ∙ picks-first (goodReader r) _ _ g ∙ tested)
+  closed-reader g c = nothing Closed (picks-first (isClosed (r .scalars .standing)) _ _ c ∙ picks-first (goodReader r) _ _ g ∙ tested)

@@ -249,7 +249,9 @@ pub fn read_on(list: Results, reader: Reader, window: &[u8], last: bool) -> List
     ) {
         return unread(Refusal::BadState, list, reader);
     }
-    if reader.scalars.closed {
+    let scalars = reader.scalars;
+    let standing = scalars.standing;
+    if standing.is_closed() {
         return unread(Refusal::Closed, list, reader);
     }
     list_good(list, reader, window, last)

@@ -10,7 +10,7 @@ use Rattle.refusal.specs.declared.Refusal.{Refusal}
 use Rattle.refusal.specs.declared.Refusal.the-variants.{BadState, Closed}
 use Rattle.item.specs.Said.{refusing}
 use Rattle.state.specs.State.{goodReader}
-use Rattle.state.specs.Reading.{Step, stepOf, openCall, goodCall, readCall, readerAfter}
+use Rattle.state.specs.Reading.{Step, stepOf, isClosed, openCall, goodCall, readCall, readerAfter}
 use Rattle.state.specs.steps.Parts.{memoryOf}
 use Rattle.state.specs.declared.Reader.{Reader}
 use Rattle.state.proofs.Numbers.{picks-first, picks-second}
@@ -31,22 +31,22 @@ module _ (n : ℕ) (r : Reader) (w : List ℕ) (last : Bool) (rows tens : List �
   unfolding manyCalls
   bad-reader g = rw g (ended (stops.Refused BadState) _ 0 0 r refl refl (begun (refusedBy BadState r) rows tens))
 
-  pub closed-reader : goodReader r ≡ true → r .scalars .closed ≡ true
+  pub closed-reader : goodReader r ≡ true → isClosed (r .scalars .standing) ≡ true
       → ManyIs (manyCalls n r w last) rows tens (notRead (stops.Refused Closed) r) rows tens
   unfolding manyCalls
   closed-reader g c =
       subst (λ (run : Run). ManyIs run rows tens (notRead (stops.Refused Closed) r) rows tens)
-      (picks-first (r .scalars .closed) _ _ c ∙ picks-first (goodReader r) _ _ g)
+      (picks-first (isClosed (r .scalars .standing)) _ _ c ∙ picks-first (goodReader r) _ _ g)
       (ended (stops.Refused Closed) _ 0 0 r refl refl (begun (refusedBy Closed r) rows tens))
 
 module _ (r : Reader) (w : List ℕ) (last : Bool) (rows tens rows₁ tens₁ : List ℤ) (answer : ManyAnswer) (n : ℕ) where
-  pub open-reader : n ≡ room rows tens → goodReader r ≡ true → r .scalars .closed ≡ false
+  pub open-reader : n ≡ room rows tens → goodReader r ≡ true → isClosed (r .scalars .standing) ≡ false
       → ManyIs (calls n r w last) rows tens answer rows₁ tens₁
       → ManyIs (manyCalls (room rows tens) r w last) rows tens answer rows₁ tens₁
   unfolding manyCalls
   open-reader e g c t =
       subst (λ (run : Run). ManyIs run rows tens answer rows₁ tens₁)
-      (ap (λ (k : ℕ). calls k r w last) e ∙ picks-second (r .scalars .closed) _ _ c ∙ picks-first (goodReader r) _ _ g)
+      (ap (λ (k : ℕ). calls k r w last) e ∙ picks-second (isClosed (r .scalars .standing)) _ _ c ∙ picks-first (goodReader r) _ _ g)
       t
 
 -- with room for a call it is the first call that refuses 17 and 18
@@ -66,7 +66,7 @@ module _ (k : ℕ) (r : Reader) (w : List ℕ) (last : Bool) where
 
   room-for-one : manyCalls (suc k) r w last ≡ calls (suc k) r w last
   unfolding manyCalls along readCall goodCall
-  room-for-one = tested-first (goodReader r) (r .scalars .closed) (openCall (r .scalars) (memoryOf (r .entries)) w last)
+  room-for-one = tested-first (goodReader r) (isClosed (r .scalars .standing)) (openCall (r .scalars) (memoryOf (r .entries)) w last)
 
 pub with-room : (n : ℕ) (r : Reader) (w : List ℕ) (last : Bool) → 0 < n → manyCalls n r w last ≡ calls n r w last
 with-room n r w last h =

@@ -10,7 +10,7 @@ use Rattle.refusal.specs.Numbers.{numberOf, valuesOf}
 use Rattle.refusal.specs.declared.Refusal.{Refusal}
 use Rattle.item.specs.Said.{Said, more, finish, refusing}
 use Rattle.state.specs.State.{Memory, readerWith, goodReader}
-use Rattle.state.specs.Reading.{Event, Step, goodCall, readCall, readerAfter}
+use Rattle.state.specs.Reading.{Event, Step, isClosed, goodCall, readCall, readerAfter}
 use Rattle.state.specs.Views.{eventIs}
 use Rattle.state.specs.Slim.{saidIs, slimSaid, slimStep}
 use Rattle.state.specs.steps.Inside.{done}
@@ -47,7 +47,7 @@ module _ (s : Scalars) (m : Memory) (w : List ℕ) (last : Bool) (sound : Sound 
   call-uses : usedIn (goodCall s m w last .said) ≤ length w
   unfolding goodCall
   call-uses =
-      by-cond (λ (t : Step). usedIn (t .said) ≤ length w) (s .closed) (λ _. zero-le) (λ _. open-call-keeps s m w last .within)
+      by-cond (λ (t : Step). usedIn (t .said) ≤ length w) (isClosed (s .standing)) (λ _. zero-le) (λ _. open-call-keeps s m w last .within)
 
   module _ (o : Outcome) (m' : Memory) (e : done o m' ≡ slimStep (goodCall s m w last)) where
     pub left-is : readerOf (o .scalars) m' ≡ readerAfter (readCall (readerOf s m) w last)

@@ -9,6 +9,7 @@ use Rattle.refusal.specs.Numbers.{numberOf, valuesOf}
 use Rattle.refusal.specs.declared.Refusal.{Refusal}
 use Rattle.refusal.specs.declared.Refusal.the-variants.{BadState, Closed}
 use Rattle.state.specs.State.{goodReader}
+use Rattle.state.specs.Reading.{isClosed}
 use Rattle.state.specs.declared.Reader.{Reader}
 use Rattle.calls.specs.Along.{Halt, isFull, wantsMore, finishes, isRefused, Run, stopped, calls}
 use Rattle.rows.specs.Rows.{rowsFrom, tensFrom}
@@ -22,7 +23,7 @@ refusedBy why r = stopped (isRefused (numberOf why) (valuesOf why)) 0 r
 -- at most so many calls, where 17 and 18 come first even if there is room for no call
 unfoldable pub manyCalls : ℕ → Reader → List ℕ → Bool → Run
 manyCalls k r w last =
-    cond (goodReader r) (cond (r .scalars .closed) (refusedBy Closed r) (calls k r w last)) (refusedBy BadState r)
+    cond (goodReader r) (cond (isClosed (r .scalars .standing)) (refusedBy Closed r) (calls k r w last)) (refusedBy BadState r)
 
 abbrev pub haltOf : Stop → Halt
 haltOf stops.Full = isFull

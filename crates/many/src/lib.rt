@@ -189,7 +189,8 @@ pub fn read_many(
     ) {
         return unread(Stop::Refused(Refusal::BadState), reader);
     }
-    if scalars.closed {
+    let standing = scalars.standing;
+    if standing.is_closed() {
         return unread(Stop::Refused(Refusal::Closed), reader);
     }
     let free = rows::room_for(rows.len(), tens.len());

@@ -6,7 +6,7 @@ use mathlib.Core.List.{List}
 use Rattle.refusal.specs.declared.Refusal.the-variants.{BadState, Closed}
 use Rattle.item.specs.Said.{refusing}
 use Rattle.state.specs.State.{goodReader}
-use Rattle.state.specs.Reading.{Step, stepOf, openCall, goodCall, readCall}
+use Rattle.state.specs.Reading.{Step, stepOf, isClosed, openCall, goodCall, readCall}
 use Rattle.state.specs.steps.Parts.{memoryOf}
 use Rattle.state.specs.declared.Reader.{Reader}
 use Rattle.reader.specs.Answers.{Tells}
@@ -22,12 +22,12 @@ module _ (r : Reader) (w : List ℕ) (last : Bool) where
   unfolding readCall
   call-bad g = picks-second (goodReader r) _ _ g
 
-  pub call-closed : goodReader r ≡ true → r .scalars .closed ≡ true
+  pub call-closed : goodReader r ≡ true → isClosed (r .scalars .standing) ≡ true
       → stepOf (refusing Closed) (r .scalars) (memoryOf (r .entries)) ≡ readCall r w last
   unfolding readCall goodCall
-  call-closed g c = picks-first (r .scalars .closed) _ _ c ∙ picks-first (goodReader r) _ _ g
+  call-closed g c = picks-first (isClosed (r .scalars .standing)) _ _ c ∙ picks-first (goodReader r) _ _ g
 
-  pub call-open : goodReader r ≡ true → r .scalars .closed ≡ false
+  pub call-open : goodReader r ≡ true → isClosed (r .scalars .standing) ≡ false
       → openCall (r .scalars) (memoryOf (r .entries)) w last ≡ readCall r w last
   unfolding readCall goodCall
-  call-open g c = picks-second (r .scalars .closed) _ _ c ∙ picks-first (goodReader r) _ _ g
+  call-open g c = picks-second (isClosed (r .scalars .standing)) _ _ c ∙ picks-first (goodReader r) _ _ g

@@ -119,7 +119,8 @@ pub fn read(reader: Reader, window: &[u8], last: bool) -> ReadAnswer
     if !good_reader::good_state(scalars, &marks, &xs, &ys, &held, &entries.inputs) {
         return refused(reader, Refusal::BadState);
     }
-    if scalars.closed {
+    let standing = scalars.standing;
+    if standing.is_closed() {
         return refused(reader, Refusal::Closed);
     }
     let told = open_told(

@@ -10,7 +10,7 @@ use Rattle.fields.specs.declared.Args.{Args}
 use Rattle.item.specs.Said.{Said, gives, more, finish, refuses, refusing}
 use Rattle.views.proofs.Refusals.{same-refusal}
 use Rattle.state.specs.State.{Memory, goodScalars, goodEntries, goodReader}
-use Rattle.state.specs.Reading.{Event, Step, stepOf, goodCall, readCall, readerAfter}
+use Rattle.state.specs.Reading.{Event, Step, stepOf, isClosed, goodCall, readCall, readerAfter}
 use Rattle.state.specs.steps.Parts.{memoryOf}
 use Rattle.state.specs.Acts.{BytesRunOut, Act, ReadAct}
 use Rattle.state.specs.Acts as act
@@ -49,7 +49,7 @@ module _ (r : Reader) (w : List ℕ) (last : Bool) where
   unfolding readCall
   on-bad g = rw g
 
-  on-closed : goodReader r ≡ true → r .scalars .closed ≡ true
+  on-closed : goodReader r ≡ true → isClosed (r .scalars .standing) ≡ true
       → readCall r w last ≡ stepOf (refusing refusal.Closed) (r .scalars) (memoryOf (r .entries))
   unfolding readCall goodCall
   on-closed g c = rw (g, c)
@@ -57,14 +57,14 @@ module _ (r : Reader) (w : List ℕ) (last : Bool) where
   by-act : Open r → {f : Memory → Step} → Act (r .scalars) (r .entries) w last f → readCall r w last ≡ f (memoryOf (r .entries))
   unfolding readCall goodCall
   by-act o {f} a =
-      sym (picks-first (goodReader r) _ _ (o .good)) ∙ sym (picks-second (r .scalars .closed) _ _ (o .unclosed))
+      sym (picks-first (goodReader r) _ _ (o .good)) ∙ sym (picks-second (isClosed (r .scalars .standing)) _ _ (o .unclosed))
       ∙ calls-by-acts (r .scalars) (r .entries) w last f a (memoryOf (r .entries))
 
   -- ---- refusals
 
   call-cause : {t : Step} (n : Refusal) → ReadAct r w last t → t .said ≡ refusing n → Cause r w last n (readerAfter t)
   call-cause n (act.onBad g) e = subst (λ (q : Refusal). Cause r w last q r) (same-refusal refusal.BadState n e) (cause.badState g)
-  call-cause n (act.onClosed g c) e = subst (λ (q : Refusal). Cause r w last q r) (same-refusal refusal.Closed n e) (cause.isClosed g c)
+  call-cause n (act.onClosed g c) e = subst (λ (q : Refusal). Cause r w last q r) (same-refusal refusal.Closed n e) (cause.onClosed g c)
   call-cause n (act.onOpen g c a) e =
       cause.onOpen (record { good = g; unclosed = c })
       (act-cause (r .scalars) (r .entries) w last (good-scalars r g) (memoryOf (r .entries)) n a e)
@@ -75,7 +75,7 @@ module _ (r : Reader) (w : List ℕ) (last : Bool) where
 
   cause-call : {n : Refusal} {left : Reader} → Cause r w last n left → Does (refusing n) left
   cause-call (cause.badState g) = (rw (on-bad g), rw (on-bad g))
-  cause-call (cause.isClosed g c) = (rw (on-closed g c), rw (on-closed g c))
+  cause-call (cause.onClosed g c) = (rw (on-closed g c), rw (on-closed g c))
   cause-call (cause.onOpen o y) =
       let a = cause-act (r .scalars) (r .entries) w last y in
       let c = by-act o (a .act) in

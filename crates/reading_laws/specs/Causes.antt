@@ -16,10 +16,11 @@ use Rattle.kinds.specs.declared.Kind.the-variants as kinds
 use Rattle.kinds.specs.declared.Cid.the-variants.{Of}
 use Rattle.causes.specs.Causes.{KindRefused, RestRefused}
 use Rattle.state.specs.State.{present, holds, withPlayer, readerWith, goodReader}
-use Rattle.state.specs.Reading.{closing, raising, naming, atOrBelow}
+use Rattle.state.specs.Reading.{isClosed, closing, raising, naming, atOrBelow}
 use Rattle.state.specs.Acts.{HadKind, Had, firstOf, secondOf, PlayerKind, InputKind, MayCome, MayRead, BytesRunOut}
 use Rattle.state.specs.declared.Pending.the-variants.{NoKind}
 use Rattle.state.specs.declared.Entries.{Entries}
+use Rattle.state.specs.declared.Standing.the-variants.{Refused}
 use Rattle.state.specs.declared.Scalars.{Scalars}
 use Rattle.state.specs.declared.Reader.{Reader}
 
@@ -28,9 +29,9 @@ pub data NewOrOld : Kind → ℤ → Type 0 where
   new : {c : ℤ} → NewOrOld (kinds.PlayerNew c) c
   old : {c : ℤ} → NewOrOld (kinds.PlayerOld c) c
 
--- closed, with nothing pending, and no more
+-- closed by the refusal, with nothing pending, and no more
 abbrev pub closed : Scalars → Entries → Reader
-closed s e = readerWith (closing s) e
+closed s e = readerWith (closing Refused s) e
 
 -- closed, and the largest client raised to c
 abbrev pub closedRaised : ℤ → Scalars → Entries → Reader
@@ -79,12 +80,12 @@ pub data Refuses (s : Scalars) (e : Entries) (w : List ℕ) (last : Bool) : Refu
 -- a good reader that is open
 pub record Open (r : Reader) : Type 0 where
   pub good : goodReader r ≡ true
-  pub unclosed : r .scalars .closed ≡ false
+  pub unclosed : isClosed (r .scalars .standing) ≡ false
 
 -- any reader: 17, then 18, which change nothing; then the others
 pub data Cause (r : Reader) (w : List ℕ) (last : Bool) : Refusal → Reader → Type 0 where
   badState : goodReader r ≡ false → Cause r w last refusal.BadState r
-  isClosed : goodReader r ≡ true → r .scalars .closed ≡ true → Cause r w last refusal.Closed r
+  onClosed : goodReader r ≡ true → isClosed (r .scalars .standing) ≡ true → Cause r w last refusal.Closed r
   onOpen : {n : Refusal} {left : Reader} → Open r → Refuses (r .scalars) (r .entries) w last n left → Cause r w last n left
 
 -- more: the flag is off, and the bytes needed run out

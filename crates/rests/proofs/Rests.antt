@@ -33,6 +33,7 @@ use Rattle.state.specs.State.{Memory}
 use Rattle.state.specs.Reading.{Step, stepOf, refusalStep, outOf, closing, naming, raising, playerDiff, newPlayer, oldPlayer, inputDiff, inputNew, tickSkip, first, apply}
 use Rattle.state.specs.Slim.{slimStep}
 use Rattle.state.specs.steps.Parts.{withRest}
+use Rattle.state.specs.declared.Standing.the-variants.{Finished}
 use Rattle.state.specs.declared.Scalars.{Scalars}
 use Rattle.rests.specs.steps.Kinds.{pairKind}
 use Rattle.rests.proofs.Slim.{slim-calm, calm-refusal, calm-out, calm-diff, calm-new, calm-old, calm-input-diff, calm-input-new, calm-skip}
@@ -71,7 +72,7 @@ module _ (s : Scalars) (m : Memory) (last : Bool) (w : List ℕ) (at : ℕ) wher
 
   -- ---- Finish
 
-  pub finish-rest : stepOf (finish at) (closing s) m ≡ slimStep (withRest s m last (readRest kinds.Finish w at))
+  pub finish-rest : stepOf (finish at) (closing Finished s) m ≡ slimStep (withRest s m last (readRest kinds.Finish w at))
   unfolding readRest apply
   finish-rest = refl
 

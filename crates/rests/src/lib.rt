@@ -6,6 +6,7 @@ ghost use Rattle.item.specs.Said.{finish};
 ghost use Rattle.kinds.specs.steps.Kinds.{inputKind};
 ghost use Rattle.state.specs.State.{Memory};
 ghost use Rattle.state.specs.Reading.{stepOf, closing};
+ghost use Rattle.state.specs.declared.Standing.the-variants.{Finished};
 ghost use Rattle.state.specs.Slim.{slimStep};
 ghost use Rattle.state.specs.steps.Parts.{withRest};
 ghost use Rattle.state.specs.steps.Inside.{OnPlayers, OnInputs, memory, done};
@@ -21,6 +22,7 @@ use state::Answer;
 use state::Event;
 use state::Outcome;
 use state::Scalars;
+use state::Standing;
 use varint::IntRead;
 
 // PlayerNew or PlayerDiff of a client.
@@ -113,9 +115,9 @@ fn with_other(s: Scalars, kind: Kind, w: &[u8], at: usize, last: bool) -> Outcom
 }
 
 fn finished(s: Scalars, used: usize) -> Outcome
-    ensures { λ r. ⌜ ((m : Memory) → done r m ≡ stepOf (finish used) (closing s) m) ⌝ }
+    ensures { λ r. ⌜ ((m : Memory) → done r m ≡ stepOf (finish used) (closing Finished s) m) ⌝ }
 {
-    let scalars = ticks::closed(s);
+    let scalars = ticks::closed(s, Standing::Finished);
     Outcome {
         answer: Answer::Finish { used },
         scalars,

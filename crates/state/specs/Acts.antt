@@ -34,9 +34,10 @@ use Rattle.kinds.specs.declared.Cid.the-variants.{Of, NoCid}
 use Rattle.state.specs.Sorts.{Change, Sort, sortOf}
 use Rattle.state.specs.Sorts as sorts
 use Rattle.state.specs.State.{Memory, withEntries, present, xOf, yOf, withPlayer, moved, holds, tenOf, withInput, goodReader}
-use Rattle.state.specs.Reading.{Event, tickStart, tickEnd, playerNew, playerChange, playerOld, input, other, Step, stepOf, closing, raising, naming, starting, ending, skipping, nextTick, sums, first, second, atOrBelow, nextKind, openCall, readCall}
+use Rattle.state.specs.Reading.{Event, tickStart, tickEnd, playerNew, playerChange, playerOld, input, other, Step, stepOf, isClosed, closing, raising, naming, starting, ending, skipping, nextTick, sums, first, second, atOrBelow, nextKind, openCall, readCall}
 use Rattle.state.specs.steps.Parts.{memoryOf}
 use Rattle.state.specs.declared.Entries.{Entries}
+use Rattle.state.specs.declared.Standing.the-variants.{Finished, Refused}
 use Rattle.state.specs.declared.Scalars.{Scalars}
 use Rattle.state.specs.declared.Reader.{Reader}
 use Rattle.state.specs.declared.Next.the-variants.{Tick, Past}
@@ -47,7 +48,7 @@ abbrev pub says : Said Event → Scalars → Entries → Memory → Step
 says x t e m = stepOf x t (withEntries e m)
 
 abbrev pub refuses : Refusal → Scalars → Entries → Memory → Step
-refuses r t e m = says (refusing r) (closing t) e m
+refuses r t e m = says (refusing r) (closing Refused t) e m
 
 -- client c's ten numbers become ns; had: it had some before
 abbrev pub saysInput : ℕ → Bool → List ℤ → ℕ → Scalars → Entries → Memory → Step
@@ -163,7 +164,7 @@ pub data WhyInput (s : Scalars) (e : Entries) (w : List ℕ) : Refusal → ℤ �
 pub data Act (s : Scalars) (e : Entries) (w : List ℕ) (last : Bool) : (Memory → Step) → Type 0 where
   -- no event
   wantsMore : last ≡ false → BytesRunOut s w → Act s e w last (says more s e)
-  finishes : {c : Content Part} {n : ℕ} → Had s w kinds.Finish c n → s .inside ≡ false → Act s e w last (says (finish n) (closing s) e)
+  finishes : {c : Content Part} {n : ℕ} → Had s w kinds.Finish c n → s .inside ≡ false → Act s e w last (says (finish n) (closing Finished s) e)
   refusesPlain : (r : Refusal) → WhyPlain s w last r → Act s e w last (refuses r s e)
   refusesPlayer : (r : Refusal) (c : ℤ) → WhyPlayer s e w r c → Act s e w last (refuses r (naming c s) e)
   refusesInput : (r : Refusal) (c : ℤ) → WhyInput s e w r c → Act s e w last (refuses r (raising (Of c) s) e)
@@ -202,8 +203,8 @@ pub data Act (s : Scalars) (e : Entries) (w : List ℕ) (last : Bool) : (Memory 
 
 pub data ReadAct (r : Reader) (w : List ℕ) (last : Bool) : Step → Type 0 where
   onBad : goodReader r ≡ false → ReadAct r w last (stepOf (refusing BadState) (r .scalars) (memoryOf (r .entries)))
-  onClosed : goodReader r ≡ true → r .scalars .closed ≡ true → ReadAct r w last (stepOf (refusing Closed) (r .scalars) (memoryOf (r .entries)))
-  onOpen : {f : Memory → Step} → goodReader r ≡ true → r .scalars .closed ≡ false → Act (r .scalars) (r .entries) w last f
+  onClosed : goodReader r ≡ true → isClosed (r .scalars .standing) ≡ true → ReadAct r w last (stepOf (refusing Closed) (r .scalars) (memoryOf (r .entries)))
+  onOpen : {f : Memory → Step} → goodReader r ≡ true → isClosed (r .scalars .standing) ≡ false → Act (r .scalars) (r .entries) w last f
       → ReadAct r w last (f (memoryOf (r .entries)))
 
 -- ---- every call is one of them

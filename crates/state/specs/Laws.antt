@@ -28,6 +28,7 @@ use Rattle.state.specs.Reading.{
   readerAfter,
 }
 use Rattle.state.specs.declared.Entries.{Entries}
+use Rattle.state.specs.declared.Standing.the-variants.{Finished, Refused}
 use Rattle.state.specs.declared.Scalars.{Scalars}
 use Rattle.state.specs.declared.Reader.{Reader}
 
@@ -57,13 +58,13 @@ Ticked (other c) s t = InTick s t
 
 -- ---- a call on an open reader
 
--- by what it says: more only where the flag is off, and it changes nothing; finish and every refusal close the reader; finish, and
--- every refusal but 13, leave the entries and the ten numbers
+-- by what it says: more only where the flag is off, and it changes nothing; finish leaves the reader finished, every refusal refused;
+-- finish, and every refusal but 13, leave the entries and the ten numbers
 abbrev pub SaidLeaves : Said Event → Scalars → Memory → Bool → Step → Type 0
 SaidLeaves (gives e used) s m last t = Ticked e s (t .scalars)
 SaidLeaves more s m last t = (last ≡ false) × ((t .scalars ≡ s) × (t .memory ≡ m))
-SaidLeaves (finish used) s m last t = (t .scalars .closed ≡ true) × (t .memory ≡ m)
-SaidLeaves (refuses k vs) s m last t = (t .scalars .closed ≡ true) × ((k ≡ 13 → ⊥) → t .memory ≡ m)
+SaidLeaves (finish used) s m last t = (t .scalars .standing ≡ Finished) × (t .memory ≡ m)
+SaidLeaves (refuses k vs) s m last t = (t .scalars .standing ≡ Refused) × ((k ≡ 13 → ⊥) → t .memory ≡ m)
 
 abbrev pub usedIn : Said Event → ℕ
 usedIn (gives e used) = used

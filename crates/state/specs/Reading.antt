@@ -53,6 +53,8 @@ use Rattle.state.specs.State.{
 use Rattle.state.specs.declared.Pending.{Pending}
 use Rattle.state.specs.declared.Pending.the-variants.{Is, NoKind}
 use Rattle.state.specs.declared.Entries.{Entries}
+use Rattle.state.specs.declared.Standing.{Standing}
+use Rattle.state.specs.declared.Standing.the-variants.{Open, Finished, Refused}
 use Rattle.state.specs.declared.Scalars.{Scalars}
 use Rattle.state.specs.declared.Reader.{Reader}
 use Rattle.state.specs.declared.Next.{Next}
@@ -83,12 +85,18 @@ stepOf a s m = record { said = a; scalars = s; memory = m }
 -- ---- the scalars
 
 -- the scalars that a call leaves; the version stays
-abbrev pub turned : Scalars → ℤ → Bool → Cid → ℤ → Pending → Bool → Scalars
+abbrev pub turned : Scalars → ℤ → Bool → Cid → ℤ → Pending → Standing → Scalars
 turned s t i p m k c = scalarsOf (s .version) t i p m k c
 
--- after a refusal or finish: closed, with nothing pending
-unfoldable pub closing : Scalars → Scalars
-closing s = turned s (s .tick) (s .inside) (s .remembered) (s .largest) NoKind true
+-- finish and a refusal close a reader, each by its own mark
+abbrev pub isClosed : Standing → Bool
+isClosed Open = false
+isClosed Finished = true
+isClosed Refused = true
+
+-- after a refusal or finish: closed by it, with nothing pending
+unfoldable pub closing : Standing → Scalars → Scalars
+closing by s = turned s (s .tick) (s .inside) (s .remembered) (s .largest) NoKind by
 
 abbrev pub raisedTo : ℤ → Cid → ℤ
 raisedTo m (Of c) = larger m c
@@ -96,25 +104,25 @@ raisedTo m NoCid = m
 
 -- after a record: nothing is pending, and the largest client has risen to the record's
 unfoldable pub raising : Cid → Scalars → Scalars
-raising c s = turned s (s .tick) (s .inside) (s .remembered) (raisedTo (s .largest) c) NoKind (s .closed)
+raising c s = turned s (s .tick) (s .inside) (s .remembered) (raisedTo (s .largest) c) NoKind (s .standing)
 
 -- after a player record of the client c, which is remembered too
 unfoldable pub naming : ℤ → Scalars → Scalars
-naming c s = turned s (s .tick) (s .inside) (Of c) (larger (s .largest) c) NoKind (s .closed)
+naming c s = turned s (s .tick) (s .inside) (Of c) (larger (s .largest) c) NoKind (s .standing)
 
 -- at the start or the end of a tick the kind is pending
 unfoldable pub starting : Kind → Scalars → Scalars
-starting k s = turned s (s .tick) true (s .remembered) (s .largest) (Is k) (s .closed)
+starting k s = turned s (s .tick) true (s .remembered) (s .largest) (Is k) (s .standing)
 
 unfoldable pub ending : ℤ → Cid → Kind → Scalars → Scalars
-ending t p k s = turned s t false p (s .largest) (Is k) (s .closed)
+ending t p k s = turned s t false p (s .largest) (Is k) (s .standing)
 
 -- after a TickSkip none is; the remembered client stays
 unfoldable pub skipping : ℤ → Bool → Scalars → Scalars
-skipping t i s = turned s t i (s .remembered) (s .largest) NoKind (s .closed)
+skipping t i s = turned s t i (s .remembered) (s .largest) NoKind (s .standing)
 
 unfoldable pub refusalStep : Refusal → Scalars → Memory → Step
-refusalStep r s m = stepOf (refusing r) (closing s) m
+refusalStep r s m = stepOf (refusing r) (closing Refused s) m
 
 -- more changes nothing
 unfoldable pub outOf : Bool → Scalars → Memory → Step
@@ -206,7 +214,7 @@ applySort (sorts.player sorts.leaves cid) s m c zs n = oldPlayer (naming cid s) 
 applySort (sorts.input true) s m c zs n = inputNew (raising (Of (first zs)) s) m (first zs) (drop 1 zs) n
 applySort (sorts.input false) s m c zs n = inputDiff (raising (Of (first zs)) s) m (first zs) (drop 1 zs) n
 applySort sorts.skip s m c zs n = tickSkip s m (natAbs (first zs)) n
-applySort sorts.finish s m c zs n = stepOf (finish n) (closing s) m
+applySort sorts.finish s m c zs n = stepOf (finish n) (closing Finished s) m
 applySort (sorts.other ex) s m c zs n = stepOf (gives (other c) n) (raising (cidOf c) s) m
 
 unfoldable pub apply : Scalars → Memory → Content Part → ℕ → Step
@@ -264,7 +272,7 @@ openCall s m w last =
 
 -- a call on a good reader
 unfoldable pub goodCall : Scalars → Memory → List ℕ → Bool → Step
-goodCall s m w last = cond (s .closed) (stepOf (refusing Closed) s m) (openCall s m w last)
+goodCall s m w last = cond (isClosed (s .standing)) (stepOf (refusing Closed) s m) (openCall s m w last)
 
 -- a call on any scalars and memory: 17 comes first
 abbrev pub callOn : Scalars → Memory → List ℕ → Bool → Step

@@ -17,6 +17,8 @@ use Rattle.state.specs.Sorts as sorts
 use Rattle.state.specs.declared.Pending.{Pending}
 use Rattle.state.specs.declared.Pending.the-variants.{Is, NoKind}
 use Rattle.state.specs.declared.Entries.{Entries}
+use Rattle.state.specs.declared.Standing.{Standing}
+use Rattle.state.specs.declared.Standing.the-variants.{Open}
 use Rattle.state.specs.declared.Scalars.{Scalars}
 use Rattle.state.specs.declared.Reader.{Reader}
 
@@ -139,11 +141,11 @@ goodReader r = goodScalars (r .scalars) && goodEntries (r .entries)
 unfoldable pub noEntries : Entries
 noEntries = entriesWith (replicate {A = ℕ} 128 0) (zeros 128) (zeros 128) (replicate {A = ℕ} 128 0) (zeros 1280)
 
--- all the scalars: version, tick, whether inside it, the remembered client, the largest client, the pending kind, whether closed
-abbrev pub scalarsOf : Version → ℤ → Bool → Cid → ℤ → Pending → Bool → Scalars
+-- all the scalars: version, tick, whether inside it, the remembered client, the largest client, the pending kind, whether it reads on
+abbrev pub scalarsOf : Version → ℤ → Bool → Cid → ℤ → Pending → Standing → Scalars
 scalarsOf v t i p m k c =
-    record { version = v; tick = t; inside = i; remembered = p; largest = m; pending = k; closed = c }
+    record { version = v; tick = t; inside = i; remembered = p; largest = m; pending = k; standing = c }
 
 -- tick 0, outside a tick, no remembered client, largest client -1, no pending kind, open, nobody present
 unfoldable pub emptyReader : Version → Reader
-emptyReader v = readerWith (scalarsOf v (pos 0) false NoCid (negsuc 0) NoKind false) noEntries
+emptyReader v = readerWith (scalarsOf v (pos 0) false NoCid (negsuc 0) NoKind Open) noEntries

@@ -1,6 +1,7 @@
 // The types of the reader, and the empty one (raw.rs, Reader).
 ghost use mathlib.Core.Path.{_≡_};
 ghost use Rattle.state.specs.State.{emptyReader};
+ghost use Rattle.state.specs.Reading.{isClosed};
 use item::Item;
 use kinds::Cid;
 use kinds::Kind;
@@ -22,6 +23,25 @@ pub struct Entries {
     pub inputs: [i32; 1280],
 }
 
+// Whether a reader reads on: it is open, or finish or a refusal has closed it.
+pub enum Standing {
+    Open,
+    Finished,
+    Refused,
+}
+
+impl Standing {
+    pub fn is_closed(self) -> bool
+        ensures { λ r. ⌜ r ≡ isClosed self ⌝ }
+    {
+        match self {
+            Standing::Open => false,
+            Standing::Finished => true,
+            Standing::Refused => true,
+        }
+    }
+}
+
 pub struct Scalars {
     pub version: Version,
     pub tick: i32,
@@ -29,7 +49,7 @@ pub struct Scalars {
     pub remembered: Cid,
     pub largest: i32,
     pub pending: Pending,
-    pub closed: bool,
+    pub standing: Standing,
 }
 
 pub struct Reader {
@@ -38,7 +58,7 @@ pub struct Reader {
 }
 
 impl Reader {
-    // Tick 0, outside a tick, no remembered client, no pending kind, largest client -1, nobody present.
+    // Tick 0, outside a tick, no remembered client, no pending kind, largest client -1, open, nobody present.
     pub fn empty(version: Version) -> Reader
         ensures { λ r. ⌜ r ≡ emptyReader version ⌝ }
     {
@@ -50,7 +70,7 @@ impl Reader {
                 remembered: Cid::NoCid,
                 largest: -1,
                 pending: Pending::NoKind,
-                closed: false,
+                standing: Standing::Open,
             },
             entries: Entries {
                 marks: [0; 128],

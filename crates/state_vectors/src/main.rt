@@ -51,7 +51,8 @@ fn read(reader: Reader, last: bool) {
 fn reader_case(s: &[u8]) {
     let reader = alike::reader_in(s);
     let scalars = reader.scalars;
-    read(reader, scalars.closed);
+    let standing = scalars.standing;
+    read(reader, standing.is_closed());
 }
 
 // The reader after a finish or a refusal, which is printed.

@@ -142,7 +142,8 @@ pub fn good_call(
         ≡ slimStep (goodCall s (memory (now (marks .entry)) (now (xs .entry)) (now (ys .entry)) (now (held .entry)) (now (inputs .entry)) (now (input .entry)) (now (former .entry))) (now (w .entry)) last)
         ⌝ }
 {
-    if s.closed {
+    let standing = s.standing;
+    if standing.is_closed() {
         return Outcome {
             answer: Answer::Refused(Refusal::Closed),
             scalars: s,

@@ -18,6 +18,7 @@ use state::Outcome;
 use state::Pending;
 use state::Rule;
 use state::Scalars;
+use state::Standing;
 
 // The scalars that a call leaves; the version stays.
 fn turn(
@@ -27,9 +28,9 @@ fn turn(
     remembered: Cid,
     largest: i32,
     pending: Pending,
-    closed: bool,
+    standing: Standing,
 ) -> Scalars
-    ensures { λ r. ⌜ r ≡ turned s tick inside remembered largest pending closed ⌝ }
+    ensures { λ r. ⌜ r ≡ turned s tick inside remembered largest pending standing ⌝ }
 {
     let version = s.version;
     Scalars {
@@ -39,23 +40,23 @@ fn turn(
         remembered,
         largest,
         pending,
-        closed,
+        standing,
     }
 }
 
-// After a refusal or finish: closed, with nothing pending.
-pub fn closed(s: Scalars) -> Scalars
-    ensures { λ r. ⌜ r ≡ closing s ⌝ }
+// After a refusal or finish: closed by it, with nothing pending.
+pub fn closed(s: Scalars, by: Standing) -> Scalars
+    ensures { λ r. ⌜ r ≡ closing by s ⌝ }
 {
     let remembered = s.remembered;
     let none = Pending::NoKind;
-    turn(s, s.tick, s.inside, remembered, s.largest, none, true)
+    turn(s, s.tick, s.inside, remembered, s.largest, none, by)
 }
 
 pub fn refuse(s: Scalars, why: Refusal) -> Outcome
     ensures { λ r. ⌜ ((m : Memory) → done r m ≡ refusalStep why s m) ⌝ }
 {
-    let scalars = closed(s);
+    let scalars = closed(s, Standing::Refused);
     Outcome {
         answer: Answer::Refused(why),
         scalars,
@@ -117,7 +118,8 @@ pub fn raised(s: Scalars, cid: Cid) -> Scalars
     let remembered = s.remembered;
     let largest = raised_to(s.largest, cid);
     let none = Pending::NoKind;
-    turn(s, s.tick, s.inside, remembered, largest, none, s.closed)
+    let standing = s.standing;
+    turn(s, s.tick, s.inside, remembered, largest, none, standing)
 }
 
 // After a player record of a client.
@@ -126,14 +128,16 @@ pub fn named(s: Scalars, cid: i32) -> Scalars
 {
     let largest = larger_of(s.largest, cid);
     let none = Pending::NoKind;
-    turn(s, s.tick, s.inside, Cid::Of(cid), largest, none, s.closed)
+    let standing = s.standing;
+    turn(s, s.tick, s.inside, Cid::Of(cid), largest, none, standing)
 }
 
 // At the start or the end of a tick.
 fn ticked(s: Scalars, tick: i32, inside: bool, remembered: Cid, pending: Pending) -> Scalars
     ensures { λ r. ⌜ r ≡ ticking tick inside remembered pending s ⌝ }
 {
-    turn(s, tick, inside, remembered, s.largest, pending, s.closed)
+    let standing = s.standing;
+    turn(s, tick, inside, remembered, s.largest, pending, standing)
 }
 
 // A tick starts, and the kind is pending.

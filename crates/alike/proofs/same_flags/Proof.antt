@@ -8,4 +8,4 @@ same-flags-spec =
     tie.close
     (tie.spec (λ c κs. search needs) (λ c κs. search needs) (λ c κs. search needs) (λ c κs. search needs) (λ c κs. search needs)
     (λ c κs. search needs) (λ c κs. search needs)
-    (λ c. rw (c .before .both .ensures, c .before .before .before .before .same-flag .ensures, c .before .before .before .before .before .before .is-second .ensures, c .before .before .before .before .before .is-second2 .ensures, c .before .before .before .same-flag2 .ensures, c .before .before .same-flag3 .ensures) at (c .both2 .ensures)))
+    (λ c. rw (c .before .both .ensures, c .before .before .before .before .same-flag .ensures, c .before .before .before .before .before .before .is-second .ensures, c .before .before .before .before .before .is-second2 .ensures, c .before .before .before .same-flag2 .ensures, c .before .before .same-standing .ensures) at (c .both2 .ensures)))

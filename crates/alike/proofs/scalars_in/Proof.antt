@@ -24,7 +24,7 @@ returns c =
     rw (
       x,
       y,
-      c .same-mark2 .ensures,
+      c .standing-in .ensures,
       c .before .byte4 .ensures,
       c .before .before .pending-of .ensures,
       z,

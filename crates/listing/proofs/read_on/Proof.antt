@@ -1,5 +1,5 @@
 -- `listing::read_on` meets its contract. Assumes nothing.
-use mathlib.Core.Path.{_∙_}
+use mathlib.Core.Path.{sym, _∙_}
 use native.Mathlib.Omega.{arith}
 use borrow.Author.Needs.{needs}
 use borrow.Author.Tests.{not-true, not-false}
@@ -19,17 +19,17 @@ returns c =
 returns-2 : tie.Need-returns-2
 unfolding goodReader
 returns-2 c =
-    let t = c .before .before in
+    let t = c .before .before .before .before in
     let a = t .before .before .before .before .before .args in
     let g = t .before .before .before .before .before .good .0 in
     let e = rw (t .before .both .ensures, t .before .before .good-entries .ensures, t .before .before .before .good-scalars .ensures) at (t .if1 .left) in
     c .unread2 .ensures
-    ∙ closed-reader (a .list) (a .reader) (a .window .now) (a .last) (omega (arith, g)) (not-false (goodReader (a .reader)) e) (c .before .if2 .taken)
+    ∙ closed-reader (a .list) (a .reader) (a .window .now) (a .last) (omega (arith, g)) (not-false (goodReader (a .reader)) e) (sym (c .before .before .is-closed .ensures) ∙ c .before .if2 .taken)
 
 list-good-requires : tie.Need-list-good-requires
 unfolding goodReader
 list-good-requires c κs =
-    let t = c .before in
+    let t = c .before .before .before in
     let r = t .before .before .before .before .before .args .reader in
     let e = rw (t .before .both .ensures, t .before .before .good-entries .ensures, t .before .before .before .good-scalars .ensures) at (t .if1 .left) in
     not-false (goodReader r) e
@@ -37,4 +37,4 @@ list-good-requires c κs =
 pub read-on-spec : {M : Type 1} → statement M
 read-on-spec =
     tie.close
-    (tie.spec (λ c κs. tt) (λ c κs. tt) (λ c κs. tt) (λ c κs. tt) returns (λ c κs. tt) returns-2 list-good-requires (λ c. search needs))
+    (tie.spec (λ c κs. tt) (λ c κs. tt) (λ c κs. tt) (λ c κs. tt) returns (λ c κs. tt) (λ c κs. tt) returns-2 list-good-requires (λ c. search needs))

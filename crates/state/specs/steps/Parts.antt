@@ -57,7 +57,7 @@ goodKind v k = goodSort v (sortOf k)
 -- ---- ticks
 
 abbrev pub ticking : ℤ → Bool → Cid → Pending → Scalars → Scalars
-ticking t i p k s = turned s t i p (s .largest) k (s .closed)
+ticking t i p k s = turned s t i p (s .largest) k (s .standing)
 
 abbrev pub skipped : Scalars → Memory → ℕ → Next → Step
 skipped s m n x =
