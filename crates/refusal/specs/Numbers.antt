@@ -23,6 +23,7 @@ use Rattle.refusal.specs.declared.Refusal.the-variants.{
   BadState,
   Closed,
   NotLast,
+  TickGone,
 }
 
 abbrev pub numbered : Refusal → ℕ × List ℤ
@@ -45,6 +46,7 @@ numbered InputDiffWithoutNew = (16, [])
 numbered BadState = (17, [])
 numbered Closed = (18, [])
 numbered NotLast = (19, [])
+numbered TickGone = (20, [])
 
 abbrev pub numberOf : Refusal → ℕ
 numberOf r = numbered r .0

@@ -23,6 +23,7 @@ pub enum Refusal {
     BadState,
     Closed,
     NotLast,
+    TickGone,
 }
 
 impl Refusal {
@@ -49,6 +50,7 @@ impl Refusal {
             Refusal::BadState => 17,
             Refusal::Closed => 18,
             Refusal::NotLast => 19,
+            Refusal::TickGone => 20,
         }
     }
 }

@@ -26,6 +26,7 @@ use Rattle.refusal.specs.declared.Refusal.the-variants.{
   BadState,
   Closed,
   NotLast,
+  TickGone,
 }
 use Rattle.item.specs.Said.{refusing}
 use Rattle.views.specs.Shown.{RefusalsShown}
@@ -52,9 +53,10 @@ refusalBy n vs =
     ∷ InputDiffWithoutNew
     ∷ BadState
     ∷ Closed
+    ∷ NotLast
     ∷ [])
     (n - 1)
-    NotLast
+    TickGone
 
 pub by-number : (r : Refusal) → refusalBy (numberOf r) (valuesOf r) ≡ r
 by-number WrongMagic = refl
@@ -76,6 +78,7 @@ by-number InputDiffWithoutNew = refl
 by-number BadState = refl
 by-number Closed = refl
 by-number NotLast = refl
+by-number TickGone = refl
 
 pub refusals-shown : RefusalsShown
 refusals-shown a b n v = sym (by-number a) ∙ rw (n, v, by-number b)
