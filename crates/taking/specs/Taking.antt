@@ -1,0 +1,20 @@
+-- An event taken off a board whose entries are lent.
+use mathlib.Core.Bool.{Bool, true, false}
+use Rattle.state.specs.declared.Entries.{Entries}
+use Rattle.back.specs.Board.{board}
+use Rattle.back.specs.Back.{Back, was, refused}
+use Rattle.back.specs.declared.Board.{Board}
+use Rattle.taking.specs.declared.Off.{Off}
+
+-- whether the event fitted, and the board that is left: where it didn't, the one that was given
+pub record Taken : Type 0 where
+  pub fits : Bool
+  pub board : Board
+
+abbrev pub takenFrom : Board → Back → Taken
+takenFrom b (was before) = record { fits = true; board = before }
+takenFrom b (refused r) = record { fits = false; board = b }
+
+-- what the code answers, of the entries that it leaves
+abbrev pub takenIs : Off → Entries → Taken
+takenIs r e = record { fits = r .fits; board = board (r .tick) e }
