@@ -1,27 +1,12 @@
-// Stepping back over an event.
+// Stepping back over an event, a board by value. The work is done by taking::take_off on lent entries.
 ghost use mathlib.Core.Path.{_≡_};
-ghost use mathlib.Core.List.{List};
-ghost use Prim.Native.Nat.{_<_};
-ghost use lib.IntN.{ℤ};
-ghost use lib.Signed.{nonNeg};
+ghost use mathlib.Core.Bool.{cond};
 ghost use Rattle.refusal.specs.declared.Refusal.the-variants.{NotLast};
-ghost use Rattle.state.specs.State.{sameInt, withPlayer, withInput};
 ghost use Rattle.state.specs.Views.{eventIs};
-ghost use Rattle.back.specs.Board.{board, goodTick, goodBoard};
-ghost use Rattle.back.specs.Back.{
-  was,
-  refused,
-  onlyIf,
-  unPresent,
-  unOld,
-  formerInput,
-  unInput,
-  takeOff,
-  stepBack,
-  steppedFrom,
-};
+ghost use Rattle.back.specs.Board.{board, goodTick};
+ghost use Rattle.back.specs.Back.{refused, stepBack, steppedFrom};
 ghost use Rattle.back.specs.Undo.{undone};
-ghost use Rattle.back.specs.declared.BoardTick.the-variants.{In, NoTick};
+ghost use Rattle.back.specs.declared.BackAnswer.the-variants as answers;
 use back::BackAnswer;
 use back::Board;
 use back::BoardTick;
@@ -30,6 +15,7 @@ use back::Undo;
 use refusal::Refusal;
 use state::Entries;
 use state::Event;
+use taking::Off;
 
 fn good_tick(tick: BoardTick) -> bool
     ensures { λ r. ⌜ r ≡ goodTick tick ⌝ }
@@ -38,15 +24,6 @@ fn good_tick(tick: BoardTick) -> bool
         return true;
     };
     compare::not_negative(t)
-}
-
-// Whether the board is not refused 17.
-fn good_board(board: Board) -> bool
-    ensures { λ r. ⌜ r ≡ goodBoard board ⌝ }
-{
-    let tick = board.tick;
-    let entries = board.entries;
-    good::both(good_tick(tick), good::good_entries(entries))
 }
 
 fn refuse(board: Board, why: Refusal) -> SteppedBack
@@ -58,195 +35,58 @@ fn refuse(board: Board, why: Refusal) -> SteppedBack
     }
 }
 
-fn not_last(tick: BoardTick, entries: Entries) -> SteppedBack
-    ensures { λ r. ⌜ r ≡ steppedFrom (board tick entries) (refused NotLast) ⌝ }
+fn answer_of(fits: bool) -> BackAnswer
+    ensures { λ r. ⌜ r ≡ cond fits answers.Back (answers.Refused NotLast) ⌝ }
 {
-    let board = Board { tick, entries };
-    refuse(board, Refusal::NotLast)
+    if fits {
+        return BackAnswer::Back;
+    }
+    BackAnswer::Refused(Refusal::NotLast)
 }
 
-fn stepped(tick: BoardTick, entries: Entries) -> SteppedBack
-    ensures { λ r. ⌜ ((b : Board) → r ≡ steppedFrom b (was (board tick entries))) ⌝ }
+// What a step back hands back, of what was taken off and the entries that are left.
+fn stepped(off: Off, entries: Entries) -> SteppedBack
+    ensures { λ r. ⌜ r ≡ record { answer = cond (off .fits) answers.Back (answers.Refused NotLast); board = board (off .tick) entries } ⌝ }
 {
+    let fits = off.fits;
+    let tick = off.tick;
     SteppedBack {
-        answer: BackAnswer::Back,
+        answer: answer_of(fits),
         board: Board { tick, entries },
     }
 }
 
-fn with_player(entries: Entries, c: usize, mark: u8, x: i32, y: i32) -> Entries
-    requires { ⌜ c < 128 ⌝ }
-    ensures { λ r. ⌜ r ≡ withPlayer entries c mark x y ⌝ }
-{
-    let mut before = entries;
-    before.marks[c] = mark;
-    before.xs[c] = x;
-    before.ys[c] = y;
-    before
-}
-
-fn with_input(entries: Entries, c: usize, mark: u8, ns: [i32; 10]) -> Entries
-    requires { ⌜ c < 128 ⌝ }
-    ensures { λ r. ⌜ r ≡ withInput entries c mark ns ⌝ }
-{
-    let mut before = entries;
-    before.held[c] = mark;
-    inputs::put_ten_at(&mut before.inputs, c, ns);
-    before
-}
-
-// PlayerNew and PlayerChange: the client is at x, y, and its entry was another.
-fn un_present(
-    t: i32,
-    entries: Entries,
-    cid: i32,
-    x: i32,
-    y: i32,
-    mark: u8,
-    old_x: i32,
-    old_y: i32,
-) -> SteppedBack
-    ensures { λ r. ⌜ r ≡ steppedFrom (board (In t) entries) (unPresent t entries cid x y mark «old_x» «old_y») ⌝ }
-{
-    let bits = num::bits(cid);
-    if 128 <= bits {
-        return not_last(BoardTick::In(t), entries);
-    }
-    let c = bits as usize;
-    if !compare::at_position(entries.marks[c], entries.xs[c], entries.ys[c], x, y) {
-        return not_last(BoardTick::In(t), entries);
-    }
-    let before = with_player(entries, c, mark, old_x, old_y);
-    stepped(BoardTick::In(t), before)
-}
-
-fn un_old(t: i32, entries: Entries, cid: i32, x: i32, y: i32) -> SteppedBack
-    ensures { λ r. ⌜ r ≡ steppedFrom (board (In t) entries) (unOld t entries cid x y) ⌝ }
-{
-    let bits = num::bits(cid);
-    if 128 <= bits {
-        return not_last(BoardTick::In(t), entries);
-    }
-    let c = bits as usize;
-    if entries.marks[c] == 1 {
-        return not_last(BoardTick::In(t), entries);
-    }
-    let before = with_player(entries, c, 1, x, y);
-    stepped(BoardTick::In(t), before)
-}
-
-fn former_input(entries: Entries, c: usize, had: bool, former: [i32; 10]) -> Entries
-    requires { ⌜ c < 128 ⌝ }
-    ensures { λ r. ⌜ r ≡ formerInput entries c had former ⌝ }
-{
-    if had {
-        return with_input(entries, c, 1, former);
-    }
-    with_input(entries, c, 0, [0; 10])
-}
-
-fn un_input(
-    t: i32,
-    entries: Entries,
-    cid: i32,
-    had: bool,
-    input: [i32; 10],
-    former: [i32; 10],
-) -> SteppedBack
-    ensures { λ r. ⌜ r ≡ steppedFrom (board (In t) entries) (unInput t entries cid had input former) ⌝ }
-{
-    let bits = num::bits(cid);
-    if 128 <= bits {
-        return not_last(BoardTick::In(t), entries);
-    }
-    let c = bits as usize;
-    if entries.held[c] != 1 {
-        return not_last(BoardTick::In(t), entries);
-    }
-    let ten = inputs::ten_at(&entries.inputs, c);
-    if !compare::same_ten(ten, input) {
-        return not_last(BoardTick::In(t), entries);
-    }
-    let before = former_input(entries, c, had, former);
-    stepped(BoardTick::In(t), before)
-}
-
-fn un_start(t: i32, entries: Entries, u: i32) -> SteppedBack
-    ensures { λ r. ⌜ r ≡ steppedFrom (board (In t) entries) (onlyIf (sameInt t u) (board NoTick entries)) ⌝ }
-{
-    if compare::same_number(t, u) {
-        return stepped(BoardTick::NoTick, entries);
-    }
-    not_last(BoardTick::In(t), entries)
-}
-
-// An event taken off a board inside tick t.
-fn inside(t: i32, entries: Entries, undo: Undo, input: [i32; 10], former: [i32; 10]) -> SteppedBack
-    ensures { λ r. ⌜ r ≡ steppedFrom (board (In t) entries) (takeOff (undone undo) input former (In t) entries) ⌝ }
-{
-    match undo {
-        Undo::Start(u) => un_start(t, entries, u),
-        Undo::End(_) => not_last(BoardTick::In(t), entries),
-        Undo::New { cid, x, y } => un_present(t, entries, cid, x, y, 0, 0, 0),
-        Undo::Change {
-            cid,
-            x,
-            y,
-            old_x,
-            old_y,
-        } => un_present(t, entries, cid, x, y, 1, old_x, old_y),
-        Undo::Old { cid, x, y } => un_old(t, entries, cid, x, y),
-        Undo::Input { cid, former: had } => un_input(t, entries, cid, had, input, former),
-        Undo::Nothing => stepped(BoardTick::In(t), entries),
-    }
-}
-
-fn un_end(entries: Entries, u: i32) -> SteppedBack
-    ensures { λ r. ⌜ r ≡ steppedFrom (board NoTick entries) (onlyIf (nonNeg u) (board (In u) entries)) ⌝ }
-{
-    if compare::not_negative(u) {
-        return stepped(BoardTick::In(u), entries);
-    }
-    not_last(BoardTick::NoTick, entries)
-}
-
-// An event taken off a board outside any tick: only TickEnd fits.
-fn outside(entries: Entries, undo: Undo) -> SteppedBack
-    ensures { λ r. ⌜
-        ((input former : List ℤ) → r ≡ steppedFrom (board NoTick entries) (takeOff (undone undo) input former NoTick entries))
-        ⌝ }
-{
-    match undo {
-        Undo::Start(_) => not_last(BoardTick::NoTick, entries),
-        Undo::End(u) => un_end(entries, u),
-        Undo::New { cid: _, x: _, y: _ } => not_last(BoardTick::NoTick, entries),
-        Undo::Change {
-            cid: _,
-            x: _,
-            y: _,
-            old_x: _,
-            old_y: _,
-        } => not_last(BoardTick::NoTick, entries),
-        Undo::Old { cid: _, x: _, y: _ } => not_last(BoardTick::NoTick, entries),
-        Undo::Input { cid: _, former: _ } => not_last(BoardTick::NoTick, entries),
-        Undo::Nothing => not_last(BoardTick::NoTick, entries),
-    }
-}
-
 // One step back over an event that is known by its undo: the board before it, of its ten numbers and the former ten (of an input; else
-// they are not looked at).
+// they are not looked at). The four small arrays are copied, so that each can be lent; the input numbers stay where they are.
 pub fn take_back(board: Board, undo: Undo, input: [i32; 10], former: [i32; 10]) -> SteppedBack
     ensures { λ r. ⌜ r ≡ steppedFrom board (stepBack board (undone undo) input former) ⌝ }
 {
     let tick = board.tick;
-    let entries = board.entries;
-    if !good_board(board) {
+    let mut entries = board.entries;
+    let mut marks = entries.marks;
+    let mut xs = entries.xs;
+    let mut ys = entries.ys;
+    let mut held = entries.held;
+    let good = good::good_lent(&marks, &xs, &ys, &held, &entries.inputs);
+    if !good::both(good_tick(tick), good) {
         return refuse(board, Refusal::BadState);
     }
-    match tick {
-        BoardTick::In(t) => inside(t, entries, undo, input, former),
-        BoardTick::NoTick => outside(entries, undo),
-    }
+    let off = taking::take_off(
+        tick,
+        &mut marks,
+        &mut xs,
+        &mut ys,
+        &mut held,
+        &mut entries.inputs,
+        undo,
+        input,
+        former,
+    );
+    entries.marks = marks;
+    entries.xs = xs;
+    entries.ys = ys;
+    entries.held = held;
+    stepped(off, entries)
 }
 
 // One step back over an event.

@@ -188,10 +188,10 @@ fn inside(
 fn un_end(u: i32) -> Off
     ensures { λ r. ⌜ ((e : Entries) → takenIs r e ≡ takenFrom (board NoTick e) (onlyIf (nonNeg u) (board (In u) e))) ⌝ }
 {
-    if compare::not_negative(u) {
-        return left(true, BoardTick::In(u));
+    if !compare::not_negative(u) {
+        return left(false, BoardTick::NoTick);
     }
-    left(false, BoardTick::NoTick)
+    left(true, BoardTick::In(u))
 }
 
 // An event taken off a board outside any tick: only TickEnd fits.
