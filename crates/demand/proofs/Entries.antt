@@ -1,5 +1,5 @@
 -- Entries: they stay good where one is changed, and a change is taken back. Assumes nothing.
-use Prim.Native.Nat.{ℕ, zero, suc, _+_, _<_}
+use Prim.Native.Nat.{ℕ, zero, suc, _+_, _*_, _≤_, _<_}
 use mathlib.Core.Path.{_≡_}
 use mathlib.Core.Bool.{Bool, true, false, not, cond, _&&_}
 use mathlib.Core.List.{List, [], _∷_}
@@ -13,10 +13,11 @@ use Rattle.state.specs.State.{sameInt, present, xOf, yOf, withPlayer, moved, ho
 use Rattle.state.specs.steps.Parts.{goodPlayer, goodInput}
 use Rattle.state.specs.Laws.{Sizes}
 use Rattle.state.specs.declared.Entries.{Entries}
+use Rattle.state.proofs.Ten.{ten-put, put-back}
 use Rattle.back.specs.Back.{sameAll, formerInput}
 use Rattle.demand.specs.Events.{players}
 use Rattle.demand.proofs.Tests.{and-true, same-refl, same-true, same-all-refl, every-at, blank}
-use Rattle.demand.proofs.Ten.{ten-zeros, ten-put, put-back}
+use Rattle.demand.proofs.Ten.{ten-zeros}
 
 -- a client present at a position
 abbrev presentAt : Entries → ℕ → ℤ → ℤ → Bool
@@ -35,6 +36,9 @@ module _ (e : Entries) (z : Sizes e) (c : ℕ) (h : c < 128) where
   held-set : (m : ℕ) → getD (set (e .held) c m) c 0 ≡ m
   held-set m = getD-set-same (e .held) c m 0 (omega (arith, z .held))
 
+  ten-fits : 10 * c + 10 ≤ length (e .inputs)
+  ten-fits = omega (arith, z .inputs)
+
   -- ---- a change is taken back
 
   player-back : (m : ℕ) (x y : ℤ) → withPlayer (withPlayer e c m x y) c (getD (e .marks) c 0) (xOf e c) (yOf e c) ≡ e
@@ -42,7 +46,7 @@ module _ (e : Entries) (z : Sizes e) (c : ℕ) (h : c < 128) where
       rw (set-set (e .marks) c m, set-set (e .xs) c x, set-set (e .ys) c y, set-getD (e .marks) c, set-getD (e .xs) c, set-getD (e .ys) c)
 
   input-back : (m : ℕ) (ns : List ℤ) → withInput (withInput e c m ns) c (getD (e .held) c 0) (tenOf (e .inputs) c) ≡ e
-  input-back m ns = rw (set-set (e .held) c m, set-getD (e .held) c, put-back (e .inputs) (z .inputs) c h ns)
+  input-back m ns = rw (set-set (e .held) c m, set-getD (e .held) c, put-back (e .inputs) c ns ten-fits)
 
   -- a player who is there and moves
   pub moved-is : (x y : ℤ) → eqb (getD (e .marks) c 0) 1 ≡ true → moved e c x y ≡ withPlayer e c 1 x y
@@ -61,7 +65,7 @@ module _ (e : Entries) (z : Sizes e) (c : ℕ) (h : c < 128) where
   gone = rw (lt-ltb c 128 h, mark-set 0)
 
   pub held-now : (ns : List ℤ) → length ns ≡ 10 → holds (withInput e c 1 ns) c && sameAll (tenOf (putTen (e .inputs) c ns) c) ns ≡ true
-  held-now ns ten = rw (lt-ltb c 128 h, held-set 1, ten-put (e .inputs) (z .inputs) c h ns ten) (same-all-refl ns)
+  held-now ns ten = rw (lt-ltb c 128 h, held-set 1, ten-put (e .inputs) c ns ten-fits ten) (same-all-refl ns)
 
   -- ---- good entries
 

@@ -13,8 +13,6 @@ use Rattle.num.proofs.Cases.{by-bool}
 use Rattle.fields.specs.Views.{zeros}
 use Rattle.fields.proofs.Answers.{and-both}
 use Rattle.state.specs.State.{
-  places,
-  puts,
   putTen,
   withPlayer,
   moved,
@@ -30,6 +28,7 @@ use Rattle.state.specs.steps.Parts.{goodPlayer, zeroAt, goodInput}
 use Rattle.state.specs.Laws.{Sizes}
 use Rattle.state.specs.declared.Entries.{Entries}
 use Rattle.state.proofs.Every.{left-of, right-of, every-from, every-map}
+use Rattle.state.proofs.Ten.{put-length, put-other}
 
 -- ---- players
 
@@ -75,30 +74,9 @@ module _ (marks : List ℕ) (xs ys : List ℤ) (c : ℕ) (good : goodPlayers mar
 
 -- ---- inputs
 
--- places of a client's ten
-abbrev small : List ℕ → Type 0
-small [] = Unit
-small (k ∷ ks) = (k < 10) × small ks
-
-puts-length : (l : List ℤ) (c : ℕ) (ns : List ℤ) (ks : List ℕ) → length (puts l c ns ks) ≡ length l
-puts-length l c ns [] = refl
-puts-length l c ns (k ∷ ks) = puts-length (set l (10 * c + k) (getD ns k (pos 0))) c ns ks ∙ length-set l (10 * c + k) (getD ns k (pos 0))
-
-puts-other : (l : List ℤ) (c i j : ℕ) (ns : List ℤ) (ks : List ℕ) → small ks → j < 10 → (i ≡ c → ⊥)
-    → getD (puts l c ns ks) (10 * i + j) (pos 0) ≡ getD l (10 * i + j) (pos 0)
-puts-other l c i j ns [] s h o = refl
-puts-other l c i j ns (k ∷ ks) s h o =
-    let d : 10 * i + j ≡ 10 * c + k → ⊥ = λ e. o (omega (arith, s .0)) in
-    puts-other (set l (10 * c + k) (getD ns k (pos 0))) c i j ns ks (s .1) h o
-    ∙ getD-set-other l (10 * c + k) (10 * i + j) (getD ns k (pos 0)) (pos 0) d
-
-small-places : small places
-small-places = search arith
-
 tens-other : (l : List ℤ) (c i : ℕ) (ns : List ℤ) → (i ≡ c → ⊥) → tenZeros l i ≡ true → tenZeros (putTen l c ns) i ≡ true
-unfolding tenZeros putTen
-tens-other l c i ns o e =
-    every-map 10 (zeroAt l i) (zeroAt (puts l c ns places) i) (λ j h z. rw (puts-other l c i j ns places small-places h o) z) e
+unfolding tenZeros
+tens-other l c i ns o e = every-map 10 (zeroAt l i) (zeroAt (putTen l c ns) i) (λ j h z. rw (put-other l c ns i j o h) z) e
 
 entry-map : (p q a b : Bool) → (a ≡ true → b ≡ true) → cond p true (q && a) ≡ true → cond p true (q && b) ≡ true
 entry-map true q a b f e = refl
@@ -162,7 +140,7 @@ module _ (e : Entries) (s : Sizes e) (c : ℕ) where
         xs = s .xs;
         ys = s .ys;
         held = length-set (e .held) c mark ∙ s .held;
-        inputs = puts-length (e .inputs) c ns places ∙ s .inputs;
+        inputs = put-length (e .inputs) c ns ∙ s .inputs;
       }
 
 -- ---- nobody is there
