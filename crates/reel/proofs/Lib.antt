@@ -1,0 +1,4 @@
+pub mod Telling
+pub mod Ring
+pub mod Keeping
+pub mod Theorems

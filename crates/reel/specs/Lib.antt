@@ -1,0 +1,2 @@
+pub mod Reel
+pub mod Laws
