@@ -1,0 +1,5 @@
+pub mod Keeps
+pub mod Beside
+pub mod Turns
+pub mod Edges
+pub mod Theorems

@@ -1,0 +1,3 @@
+pub mod Reeling
+pub mod Laws
+pub mod steps
