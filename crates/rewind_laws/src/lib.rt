@@ -1,0 +1,1 @@
+// What holds of rewinding beside a reader, stated in specs/Laws.antt and proved in proofs/. No code.

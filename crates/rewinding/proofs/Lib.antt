@@ -1,0 +1,3 @@
+pub mod Rewinds
+pub mod Search
+pub mod Steps

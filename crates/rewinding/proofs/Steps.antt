@@ -1,0 +1,85 @@
+-- Rows stepped over, one after the other; the whole rewinding by what the code tests. Assumes nothing.
+use Prim.Native.Nat.{ℕ, zero, suc, _+_, _-_, _<_, _≤_}
+use mathlib.Core.Path.{_≡_, refl, ap, _∙_}
+use mathlib.Core.Bool.{true, false, not, cond}
+use mathlib.Core.List.{List, []}
+use native.Mathlib.Omega.{arith}
+use lib.Dec.{ltb}
+use lib.IntN.{ℤ}
+use borrow.Author.Tests.{lt-ltb}
+use Rattle.fields.specs.Views.{zeros}
+use Rattle.state.specs.State.{tenOf}
+use Rattle.state.specs.declared.Entries.{Entries}
+use Rattle.state.proofs.Numbers.{picks-first}
+use Rattle.back.specs.Back.{takeOff}
+use Rattle.back.specs.Undo.{undone}
+use Rattle.back.specs.declared.BoardTick.{BoardTick}
+use Rattle.back.specs.declared.Board.{Board}
+use Rattle.back.specs.declared.Undo.{Undo}
+use Rattle.back.specs.declared.Undo.the-variants.{Start, End, New, Change, Old, Input, Nothing}
+use Rattle.taking.specs.Taking.{Taken, takenFrom}
+use Rattle.reel.specs.Reel.{ofInput, undoIn, placeBefore, rowAt, rowsBefore}
+use Rattle.reel.specs.declared.Reel.{Reel}
+use Rattle.rewinding.specs.Rewinding.{backRow, stepOver}
+
+-- the ten numbers and the former ten of a row other than an input are not looked at
+any-ten : (u : Undo) (ten former : List ℤ) (k : BoardTick) (e : Entries)
+    → takeOff (undone u) ten former k e ≡ takeOff (undone u) (ofInput u ten []) (ofInput u former []) k e
+any-ten (Start t) ten former k e = refl
+any-ten (End t) ten former k e = refl
+any-ten (New c x y) ten former k e = refl
+any-ten (Change c x y old-x old-y) ten former k e = refl
+any-ten (Old c x y) ten former k e = refl
+any-ten (Input c had) ten former k e = refl
+any-ten Nothing ten former k e = refl
+
+-- a place before one of the 512 is one of them
+pub before-below : (p : ℕ) → p < 512 → placeBefore p < 512
+before-below zero h = omega arith
+before-below (suc p) h = omega arith
+
+-- x is what taking the row at a place off leaves
+abbrev pub offAt : Reel → ℕ → Board → Taken
+offAt l p b = takenFrom b (takeOff (undone (undoIn (tenOf (l .rows) p))) (tenOf (l .inputs) p) (tenOf (l .formers) p) (b .tick) (b .entries))
+
+module _ (l : Reel) where
+  off-row : (p : ℕ) (b : Board) → offAt l p b ≡ takenFrom b (backRow (rowAt l p) b)
+  unfolding rowAt
+  off-row p b = ap (takenFrom b) (any-ten (undoIn (tenOf (l .rows) p)) (tenOf (l .inputs) p) (tenOf (l .formers) p) (b .tick) (b .entries))
+
+  -- of the n rows before a place, k are stepped over: x is what is left after the next
+  module _ (n k p : ℕ) (left : k < n) (b : Board) (x : Taken) (taken : x ≡ offAt l (placeBefore p) b) where
+    onward : cond (x .fits) (stepOver (rowsBefore l (n - (k + 1)) (placeBefore p)) (x .board)) x ≡ stepOver (rowsBefore l (n - k) p) b
+    unfolding stepOver rowsBefore
+    onward =
+        let less : n - k ≡ suc (n - (k + 1)) = omega arith in
+        rw less
+        (ap (λ (t : Taken). cond (t .fits) (stepOver (rowsBefore l (n - (k + 1)) (placeBefore p)) (t .board)) t) (taken ∙ off-row (placeBefore p) b))
+
+    pub fitted : x .fits ≡ true → stepOver (rowsBefore l (n - (k + 1)) (placeBefore p)) (x .board) ≡ stepOver (rowsBefore l (n - k) p) b
+    fitted e = picks-first (x .fits) _ x e ∙ onward
+
+    pub unfitted : x .fits ≡ false → record { fits = false; board = x .board } ≡ stepOver (rowsBefore l (n - k) p) b
+    unfitted e = rw e at onward
+
+  pub none-left : (n k p : ℕ) → n ≤ k → (b : Board) → record { fits = true; board = b } ≡ stepOver (rowsBefore l (n - k) p) b
+  unfolding stepOver rowsBefore
+  none-left n k p h b = let e : n - k ≡ 0 = omega arith in rw e
+
+-- ---- what the code reads at the place before p: q is that place
+
+read-ten : (l : List ℤ) (p q : ℕ) (r : List ℤ) → p < 512 → q ≡ placeBefore p → r ≡ cond (ltb q 512) (tenOf l q) (zeros 10)
+    → r ≡ tenOf l (placeBefore p)
+read-ten l p q r h e t = rw (e, lt-ltb (placeBefore p) 512 (before-below p h)) at t
+
+module _ (l : Reel) (p q : ℕ) (h : p < 512) (place : q ≡ placeBefore p) where
+  abbrev At : List ℤ → List ℤ → Type 0
+  At ns r = r ≡ cond (ltb q 512) (tenOf ns q) (zeros 10)
+
+  pub took : (b : Board) (x : Taken) (ns ten old : List ℤ) (u : Undo) → At (l .rows) ns → u ≡ undoIn ns → At (l .inputs) ten → At (l .formers) old
+      → x ≡ takenFrom b (takeOff (undone u) ten old (b .tick) (b .entries)) → x ≡ offAt l (placeBefore p) b
+  took b x ns ten old u r v i f t =
+      let us : u ≡ undoIn (tenOf (l .rows) (placeBefore p)) = v ∙ ap undoIn (read-ten (l .rows) p q ns h place r) in
+      let is = read-ten (l .inputs) p q ten h place i in
+      let fs = read-ten (l .formers) p q old h place f in
+      t ∙ (λ k. takenFrom b (takeOff (undone (us k)) (is k) (fs k) (b .tick) (b .entries)))

@@ -1,0 +1,2 @@
+pub mod Rewinding
+pub mod steps

@@ -1,0 +1,89 @@
+-- Rewinding to a tick: a copy of the board, just after the newest TickStart of that tick on the reel. docs/FORMAT.md, "Rewinding".
+use Prim.Native.Nat.{ℕ, suc}
+use mathlib.Core.Bool.{Bool, true, false, cond, _&&_}
+use mathlib.Core.List.{List, [], _∷_}
+use lib.ListN.{take}
+use lib.IntN.{ℤ}
+use Rattle.refusal.specs.declared.Refusal.the-variants.{BadState, Closed, NotLast, TickGone}
+use Rattle.state.specs.State.{sameInt, goodReader, noEntries}
+use Rattle.state.specs.declared.Standing.{Standing}
+use Rattle.state.specs.declared.Standing.the-variants as standings
+use Rattle.state.specs.declared.Reader.{Reader}
+use Rattle.back.specs.Board.{board, boardOf}
+use Rattle.back.specs.Back.{Back, was, refused, takeOff}
+use Rattle.back.specs.Undo.{undone}
+use Rattle.back.specs.declared.Undo.{Undo}
+use Rattle.back.specs.declared.Undo.the-variants.{Start, End, New, Change, Old, Input, Nothing}
+use Rattle.back.specs.declared.BoardTick.the-variants.{NoTick}
+use Rattle.back.specs.declared.Board.{Board}
+use Rattle.taking.specs.Taking.{Taken, takenFrom}
+use Rattle.reel.specs.Reel.{Row, goodReel, rowsOf}
+use Rattle.reel.specs.declared.Reel.{Reel}
+use Rattle.rewinding.specs.declared.RewindAnswer.the-variants as answers
+use Rattle.rewinding.specs.declared.Rewound.{Rewound}
+
+-- ---- the newest TickStart of a tick
+
+abbrev pub isStart : ℤ → Undo → Bool
+isStart t (Start u) = sameInt u t
+isStart t (End u) = false
+isStart t (New c x y) = false
+isStart t (Change c x y old-x old-y) = false
+isStart t (Old c x y) = false
+isStart t (Input c had) = false
+isStart t Nothing = false
+
+-- the number of rows that are newer than it, or that it is not there
+pub data Newer : Type 0 where
+  newer : ℕ → Newer
+  gone : Newer
+
+abbrev pub oneNewer : Newer → Newer
+oneNewer (newer n) = newer (suc n)
+oneNewer gone = gone
+
+-- rows, the newest first
+unfoldable pub newerThan : ℤ → List Row → Newer
+newerThan t [] = gone
+newerThan t (x ∷ xs) = cond (isStart t (x .undo)) (newer 0) (oneNewer (newerThan t xs))
+
+-- ---- stepping over rows
+
+abbrev pub backRow : Row → Board → Back
+backRow x b = takeOff (undone (x .undo)) (x .ten) (x .former) (b .tick) (b .entries)
+
+-- while they fit; the board is left as it stands at the first that doesn't
+unfoldable pub stepOver : List Row → Board → Taken
+stepOver [] b = record { fits = true; board = b }
+stepOver (x ∷ xs) b = let t = takenFrom b (backRow x b) in cond (t .fits) (stepOver xs (t .board)) t
+
+-- ---- rewinding
+
+abbrev pub closedByRefusal : Standing → Bool
+closedByRefusal standings.Open = false
+closedByRefusal standings.Finished = false
+closedByRefusal standings.Refused = true
+
+-- the copy, if every row fitted
+abbrev pub copyOf : Taken → Back
+copyOf t = cond (t .fits) (was (t .board)) (refused NotLast)
+
+-- of the rows that are newer than TickStart; TickStart itself is not stepped over
+abbrev pub stepBackTo : List Row → Board → Newer → Back
+stepBackTo rows b (newer n) = copyOf (stepOver (take n rows) b)
+stepBackTo rows b gone = refused TickGone
+
+-- 17 (reader, reel), 18, 20, 19
+unfoldable pub rewindTo : Reader → Reel → ℤ → Back
+rewindTo r l t =
+    cond (goodReader r && goodReel l)
+    (cond (closedByRefusal (r .scalars .standing)) (refused Closed) (stepBackTo (rowsOf l) (boardOf r) (newerThan t (rowsOf l))))
+    (refused BadState)
+
+-- what the call hands back: in a refusal there is no copy, and the board is blank
+abbrev pub blankBoard : Board
+blankBoard = board NoTick noEntries
+
+abbrev pub rewoundOf : Back → Rewound
+rewoundOf (was b) = record { answer = answers.Ended; board = b }
+rewoundOf (refused r) = record { answer = answers.Refused r; board = blankBoard }

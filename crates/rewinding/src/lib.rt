@@ -1,0 +1,236 @@
+// Rewinding to a tick: a copy of the board, just after the newest TickStart of that tick on the reel.
+ghost use mathlib.Core.Path.{_≡_};
+ghost use mathlib.Core.Bool.{true};
+ghost use mathlib.Core.List.{List};
+ghost use Prim.Native.Nat.{_<_, _≤_};
+ghost use lib.IntN.{ℤ};
+ghost use Rattle.state.specs.State.{tenOf, entriesWith};
+ghost use Rattle.back.specs.Board.{board};
+ghost use Rattle.back.specs.Back.{refused};
+ghost use Rattle.taking.specs.Taking.{takenIs};
+ghost use Rattle.reel.specs.Reel.{undoIn, reelOf, rowsBefore, rowsOf};
+ghost use Rattle.rewinding.specs.Rewinding.{isStart, newerThan, stepOver, closedByRefusal, copyOf, rewindTo, rewoundOf};
+ghost use Rattle.rewinding.specs.steps.Found.{foundIs};
+use back::Board;
+use back::BoardTick;
+use reel::Counts;
+use reel::Reel;
+use refusal::Refusal;
+use state::Entries;
+use state::Reader;
+use state::Standing;
+use taking::Off;
+
+pub enum RewindAnswer {
+    Ended,
+    Refused(Refusal),
+}
+
+// The copy, just after TickStart; in a refusal there is none, and the board is blank.
+pub struct Rewound {
+    pub answer: RewindAnswer,
+    pub board: Board,
+}
+
+// How many rows are newer than the TickStart, or that it is not there.
+enum Found {
+    Newer(usize),
+    Gone,
+}
+
+// The newest TickStart of a tick.
+fn find_start(counts: Counts, rows: &[i32; 5120], tick: i32) -> Found
+    requires { ⌜ (counts .next < 512) × (counts .count ≤ 512) ⌝ }
+    ensures { λ r. ⌜ ((inputs formers : List ℤ) → foundIs r ≡ newerThan tick (rowsOf (reelOf counts (now (rows .entry)) inputs formers))) ⌝ }
+{
+    let mut n: usize = 0;
+    let mut place = counts.next;
+    while n < counts.count {
+        place = reel::place_before(place);
+        if is_start(rows, place, tick) {
+            return Found::Newer(n);
+        }
+        n += 1;
+    }
+    Found::Gone
+}
+
+// Whether the row at a place is TickStart of a tick.
+fn is_start(rows: &[i32; 5120], p: usize, tick: i32) -> bool
+    requires { ⌜ p < 512 ⌝ }
+    ensures { λ r. ⌜ r ≡ isStart tick (undoIn (tenOf (now (rows .entry)) p)) ⌝ }
+{
+    let kind = rows[10 * p];
+    let t = rows[10 * p + 1];
+    good::both(compare::same_number(kind, 1), compare::same_number(t, tick))
+}
+
+// Steps over the n rows before a place, while they fit.
+fn step_over(
+    tick: BoardTick,
+    marks: &mut [u8; 128],
+    xs: &mut [i32; 128],
+    ys: &mut [i32; 128],
+    held: &mut [u8; 128],
+    inputs: &mut [i32; 1280],
+    next: usize,
+    n: usize,
+    rows: &[i32; 5120],
+    tens: &[i32; 5120],
+    formers: &[i32; 5120],
+) -> Off
+    requires { ⌜ next < 512 ⌝ }
+    ensures { λ r. ⌜
+        ((counts : Counts) → takenIs r (entriesWith (now (marks .exit)) (now (xs .exit)) (now (ys .exit)) (now (held .exit)) (now (inputs .exit)))
+        ≡ stepOver (rowsBefore (reelOf counts (now (rows .entry)) (now (tens .entry)) (now (formers .entry))) n next)
+        (board tick (entriesWith (now (marks .entry)) (now (xs .entry)) (now (ys .entry)) (now (held .entry)) (now (inputs .entry)))))
+        ⌝ }
+{
+    let mut t = tick;
+    let mut p = next;
+    let mut k: usize = 0;
+    while k < n {
+        p = reel::place_before(p);
+        let undo = reel::undo_in(keeping::ten_at(rows, p));
+        let ten = keeping::ten_at(tens, p);
+        let old = keeping::ten_at(formers, p);
+        let off = taking::take_off(t, marks, xs, ys, held, inputs, undo, ten, old);
+        let left = off.tick;
+        if !off.fits {
+            return Off {
+                fits: false,
+                tick: left,
+            };
+        }
+        t = left;
+        k += 1;
+    }
+    Off {
+        fits: true,
+        tick: t,
+    }
+}
+
+// In a refusal there is no copy.
+fn refuse(why: Refusal) -> Rewound
+    ensures { λ r. ⌜ r ≡ rewoundOf (refused why) ⌝ }
+{
+    Rewound {
+        answer: RewindAnswer::Refused(why),
+        board: Board {
+            tick: BoardTick::NoTick,
+            entries: Entries {
+                marks: [0; 128],
+                xs: [0; 128],
+                ys: [0; 128],
+                held: [0; 128],
+                inputs: [0; 1280],
+            },
+        },
+    }
+}
+
+// The board after the n newest rows are stepped over.
+fn over_newest(
+    board: Board,
+    n: usize,
+    counts: Counts,
+    rows: &[i32; 5120],
+    tens: &[i32; 5120],
+    formers: &[i32; 5120],
+) -> Rewound
+    requires { ⌜ counts .next < 512 ⌝ }
+    ensures { λ r. ⌜ r ≡ rewoundOf (copyOf (stepOver (rowsBefore (reelOf counts (now (rows .entry)) (now (tens .entry)) (now (formers .entry))) n (counts .next)) board)) ⌝ }
+{
+    let tick = board.tick;
+    let entries = board.entries;
+    let mut marks = entries.marks;
+    let mut xs = entries.xs;
+    let mut ys = entries.ys;
+    let mut held = entries.held;
+    let mut inputs = entries.inputs;
+    let off = step_over(
+        tick,
+        &mut marks,
+        &mut xs,
+        &mut ys,
+        &mut held,
+        &mut inputs,
+        counts.next,
+        n,
+        rows,
+        tens,
+        formers,
+    );
+    if !off.fits {
+        return refuse(Refusal::NotLast);
+    }
+    let before = off.tick;
+    Rewound {
+        answer: RewindAnswer::Ended,
+        board: Board {
+            tick: before,
+            entries: Entries {
+                marks,
+                xs,
+                ys,
+                held,
+                inputs,
+            },
+        },
+    }
+}
+
+fn closed_by_refusal(standing: Standing) -> bool
+    ensures { λ r. ⌜ r ≡ closedByRefusal standing ⌝ }
+{
+    match standing {
+        Standing::Open => false,
+        Standing::Finished => false,
+        Standing::Refused => true,
+    }
+}
+
+// Rewinds a copy of a reader's board to just after the newest TickStart of a tick on the reel, whose arrays are lent. Refused 17 (reader, reel),
+// 18 (a reader closed by a refusal), 20 (no such TickStart), 19 (an event newer than it doesn't fit), in this order.
+pub fn rewind_lent(
+    reader: Reader,
+    counts: Counts,
+    rows: &[i32; 5120],
+    inputs: &[i32; 5120],
+    formers: &[i32; 5120],
+    tick: i32,
+) -> Rewound
+    ensures { λ r. ⌜ r ≡ rewoundOf (rewindTo reader (reelOf counts (now (rows .entry)) (now (inputs .entry)) (now (formers .entry))) tick) ⌝ }
+{
+    let scalars = reader.scalars;
+    let entries = reader.entries;
+    if !good::both(
+        good::both(
+            good_reader::good_scalars(scalars),
+            good::good_entries(entries),
+        ),
+        reel::good_counts(counts),
+    ) {
+        return refuse(Refusal::BadState);
+    }
+    let standing = scalars.standing;
+    if closed_by_refusal(standing) {
+        return refuse(Refusal::Closed);
+    }
+    match find_start(counts, rows, tick) {
+        Found::Newer(n) => over_newest(back::board_of(reader), n, counts, rows, inputs, formers),
+        Found::Gone => refuse(Refusal::TickGone),
+    }
+}
+
+// The same for a reel by value.
+pub fn rewind(reader: Reader, reel: Reel, tick: i32) -> Rewound
+    ensures { λ r. ⌜ r ≡ rewoundOf (rewindTo reader reel tick) ⌝ }
+{
+    let counts = reel.counts;
+    let rows = reel.rows;
+    let inputs = reel.inputs;
+    let formers = reel.formers;
+    rewind_lent(reader, counts, &rows, &inputs, &formers, tick)
+}
