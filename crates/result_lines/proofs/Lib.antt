@@ -1,5 +1,4 @@
 pub mod Number
 pub mod Order
-pub mod Puts
 pub mod Rows
 pub mod Text

@@ -14,7 +14,7 @@ use Rattle.lines.specs.steps.Puts.{PutsText}
 use Rattle.lines.proofs.Texts.{end-le}
 use Rattle.result_lines.specs.ResultLines.{rowLines, othersLine, listText, longestList}
 use Rattle.result_lines.proofs.Number.{number-le}
-use Rattle.result_lines.proofs.Puts.{put-size}
+use Rattle.row_lines.proofs.Puts.{put-size}
 use Rattle.result_lines.proofs.Rows.{rows-le}
 
 last-le : (e : Ending) → length (lastLine e) ≤ longest

@@ -1,2 +1,3 @@
 pub mod FromRows
 pub mod Onward
+pub mod Puts

@@ -6,7 +6,7 @@ use borrow.Author.Needs.{needs}
 use lib.ListN.{length-set}
 use Rattle.lines.specs.Lines.{decimalDigits, newline}
 use Rattle.result_lines.proofs.Number.{Behind, one-more, first-one, number-le}
-use Rattle.result_lines.proofs.Puts.{raw-put}
+use Rattle.row_lines.proofs.Puts.{raw-put}
 use Rattle.result_lines.proofs.put_number.Statement.{statement}
 use Rattle.result_lines.proofs.put_number.Tie as tie
 

@@ -5,7 +5,7 @@ use Rattle.packer.proofs.Joined.{two-puts}
 use Rattle.lines.specs.Lines.{decimalDigits, newline, text}
 use Rattle.lines.specs.steps.Puts.{PutsText}
 use Rattle.result_lines.proofs.Number.{number-le}
-use Rattle.result_lines.proofs.Puts.{raw-put, put-size}
+use Rattle.row_lines.proofs.Puts.{raw-put, put-size}
 use Rattle.result_lines.proofs.put_others.Statement.{statement}
 use Rattle.result_lines.proofs.put_others.Tie as tie
 

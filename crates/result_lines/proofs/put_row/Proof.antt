@@ -7,7 +7,7 @@ use mir.Val.{toZ, ofZ}
 use mir.Facts.{toZ-ofZ}
 use Rattle.lines.specs.Lines.{plainLine}
 use Rattle.result_lines.specs.ResultLines.{rowWord}
-use Rattle.result_lines.proofs.Puts.{text-put}
+use Rattle.row_lines.proofs.Puts.{text-put}
 use Rattle.result_lines.proofs.put_row.Statement.{statement}
 use Rattle.result_lines.proofs.put_row.Tie as tie
 

@@ -5,7 +5,7 @@ use borrow.Author.Needs.{needs}
 use lib.ListN.{length}
 use Rattle.lines.specs.Lines.{longest, lastLine}
 use Rattle.result_lines.specs.steps.Rows.{rowsIn}
-use Rattle.result_lines.proofs.Puts.{text-put}
+use Rattle.row_lines.proofs.Puts.{text-put}
 use Rattle.result_lines.proofs.Rows.{rows-count}
 use Rattle.result_lines.proofs.Text.{others-fit, last-fits, all-put}
 use Rattle.result_lines.proofs.put_text.Statement.{statement}
