@@ -1,4 +1,5 @@
-"""teehistorian.py PROGRAM FILE: takes a .teehistorian file apart and feeds its body to PROGRAM, which is replay or ladder.
+"""teehistorian.py PROGRAM FILE [TICK]: takes a .teehistorian file apart and feeds its body to PROGRAM, which is replay, ladder or rewind. Only
+rewind has a TICK, which it is started with.
 
 The file is the magic of 16 bytes, a JSON header that ends with a byte 00, and the body; unpack.py unpacks it where it is packed. The
 header's "version", a string, says which version of the format the body has. Nothing else of the header is looked at.
@@ -17,8 +18,12 @@ from unpack import CHUNK, Unfit, at_least, chunks_of, recording, write_all
 MAGIC = bytes.fromhex("699db17b8efb34ffb1d8da6f60c15dd1")
 # A header is some kilobytes; what has no 00 in this many bytes is no header.
 LONGEST_HEADER = 64 << 20
-LAST = [(b"finish", 0), (b"refused", 3), (b"too long", 4)]
+LAST = [(b"finish", 0), (b"ended", 0), (b"refused", 3), (b"too long", 4)]
+# What is printed last of a body that only ends too soon: by replay and ladder, and by rewind.
+CUT = (b"refused 3\n", b"refused 18\n")
 NO_LAST_LINE = 1
+WITH_TICK = "rewind"
+LATEST_TICK = 2147483647
 
 
 def check_magic(start):
@@ -134,7 +139,7 @@ def pass_on(program, feeder):
     status = program.wait()
     if feeder.packed:
         feeder.join()
-    if not (feeder.failure and last == b"refused 3\n"):
+    if not (feeder.failure and last in CUT):
         print_text(last)
     if feeder.failure:
         raise feeder.failure
@@ -148,7 +153,7 @@ def run(words, fd):
     chunks = iter(chunks)
     header, start = split_header(chunks)
     version = version_of(header)
-    program = subprocess.Popen([words[0]], stdin=subprocess.PIPE, stdout=subprocess.PIPE, bufsize=0)
+    program = subprocess.Popen([words[0], *words[2:]], stdin=subprocess.PIPE, stdout=subprocess.PIPE, bufsize=0)
     try:
         feeder = Feeder(program.stdin, bytes([version]) + start, chunks, packed)
         return pass_on(program, feeder)
@@ -160,10 +165,24 @@ def run(words, fd):
         program.wait()
 
 
+def is_tick(word):
+    return re.fullmatch(r"[0-9]{1,64}", word, re.ASCII) is not None and int(word) <= LATEST_TICK
+
+
+def are_right(name, words):
+    """Whether the words behind the program's are a file and, for rewind, a tick."""
+    if not words or words[0] in ("-h", "--help"):
+        return False
+    if name == WITH_TICK:
+        return len(words) == 2 and is_tick(words[1])
+    return len(words) == 1
+
+
 def main(words):
     name = os.path.basename(words[0]) if words else "PROGRAM"
-    if len(words) != 2 or words[1] in ("-h", "--help"):
-        print(f"usage: tools/{name} FILE    (- for standard input)", file=sys.stderr)
+    if not are_right(name, words[1:]):
+        tick = f" TICK    (a number up to {LATEST_TICK})" if name == WITH_TICK else ""
+        print(f"usage: tools/{name} FILE{tick}    (- for standard input)", file=sys.stderr)
         return 2
     try:
         return run(words, 0 if words[1] == "-" else os.open(words[1], os.O_RDONLY))

@@ -1,0 +1,287 @@
+// The rewind program: rewind TICK [STEP [EVENTS]]. Standard input is a version byte, 01 or 02, and a body. It is read to its end, or until
+// EVENTS events have come, with a reel beside; then the board is rewound to TICK and printed. STEP is 0 or none.
+ghost use mathlib.Core.Path.{_≡_};
+ghost use Prim.Native.Nat.{_<_};
+ghost use lib.ListN.{length};
+use feed::Hand;
+use kinds::Version;
+use kinds::VersionOf;
+use libc::STDERR_FILENO;
+use libc::STDIN_FILENO;
+use libc::STDOUT_FILENO;
+use lines::Ending;
+use number_args::Argument;
+use packer::Part;
+use reel::Counts;
+use refusal::Refusal;
+use rewinding::Rewound;
+use state::Reader;
+use varint::Wrote;
+
+// What the arguments say: whether they are good, the tick, and how many events are read at most.
+struct Wanted {
+    good: bool,
+    tick: i32,
+    most: usize,
+}
+
+// What the first turn begins with, and whether there is one.
+struct First {
+    reader: Reader,
+    hand: Hand,
+    goes: bool,
+}
+
+// What is at hand after a read, and whether the read failed.
+struct Fed {
+    hand: Hand,
+    failed: bool,
+}
+
+fn say(text: &[u8]) {
+    io::write_all(STDERR_FILENO, text);
+}
+
+// The first n bytes.
+fn print(text: &[u8], n: usize) {
+    let start = Part { at: 0, len: n };
+    if io::write_all(STDOUT_FILENO, packer::show(text, start)) {
+        return;
+    }
+    say(b"rewind: a write failed\n");
+}
+
+fn argument(i: usize) -> Argument {
+    let mut text = [0u8; 64];
+    let n = os::arg(i, &mut text);
+    if os::errno() != 0 {
+        return Argument::Bad;
+    }
+    number_args::number_in(packer::show(&text, Part { at: 0, len: n }))
+}
+
+fn bad() -> Wanted {
+    Wanted {
+        good: false,
+        tick: 0,
+        most: 0,
+    }
+}
+
+// The most events, of an argument that may be missing.
+fn with_events(tick: i32, count: usize) -> Wanted {
+    if count < 4 {
+        return Wanted {
+            good: true,
+            tick,
+            most: 18446744073709551615,
+        };
+    }
+    match argument(3) {
+        Argument::Number(n) => Wanted {
+            good: true,
+            tick,
+            most: num::bits(n) as usize,
+        },
+        Argument::Bad => bad(),
+    }
+}
+
+// STEP is 0, where there is one.
+fn good_step(count: usize) -> bool {
+    if count < 3 {
+        return true;
+    }
+    match argument(2) {
+        Argument::Number(n) => n == 0,
+        Argument::Bad => false,
+    }
+}
+
+fn arguments() -> Wanted {
+    let count = os::arg_count();
+    if 4 < count {
+        return bad();
+    }
+    if !good_step(count) {
+        return bad();
+    }
+    match argument(1) {
+        Argument::Number(tick) => with_events(tick, count),
+        Argument::Bad => bad(),
+    }
+}
+
+// One read, behind the bytes at hand.
+fn read_on(buf: &mut [u8], hand: Hand) -> Fed {
+    let n = feed::keep(buf, hand);
+    let got = libc::read(STDIN_FILENO, &mut buf[n..]);
+    if got < 0 {
+        say(b"rewind: a read failed\n");
+        return Fed { hand, failed: true };
+    }
+    let more = io::count(got, &buf[n..]);
+    Fed {
+        hand: feed::grow(buf.len(), n, more),
+        failed: false,
+    }
+}
+
+// A read, where a turn wants more bytes.
+fn fed_on(wants: bool, buf: &mut [u8], hand: Hand) -> Fed {
+    if wants {
+        return read_on(buf, hand);
+    }
+    Fed {
+        hand,
+        failed: false,
+    }
+}
+
+// The turns that may follow: fewer than there were, and none where none follows.
+fn fewer(turns: u64, goes: bool) -> u64
+    requires { ⌜ 0 < turns ⌝ }
+    ensures { λ r. ⌜ r < turns ⌝ }
+{
+    if goes {
+        return turns - 1;
+    }
+    0
+}
+
+fn goes_on(over: bool, failed: bool) -> bool {
+    if over {
+        return false;
+    }
+    !failed
+}
+
+fn less(a: usize, b: usize) -> usize {
+    if a < b { 0 } else { a - b }
+}
+
+fn print_rewound(rewound: Rewound) {
+    let mut text = [0u8; 23324];
+    let Wrote::Past(n) = board_lines::write_rewound(rewound, &mut text, 0) else {
+        return;
+    };
+    print(&text, n);
+}
+
+// Turns until one is the last, then the rewind. Each turn gives an event, the end or a read; their number is there to bound them. After a
+// failed read nothing is printed.
+fn rewind(first: First, wanted: Wanted, buf: &mut [u8]) {
+    let mut rows = [0i32; 5120];
+    let mut inputs = [0i32; 5120];
+    let mut formers = [0i32; 5120];
+    let mut counts = Counts { next: 0, count: 0 };
+    let mut reader = first.reader;
+    let mut hand = first.hand;
+    let mut most = wanted.most;
+    let mut failed = false;
+    let mut turns: u64 = 18446744073709551615;
+    while 0 < turns {
+        let turned = rewind_turns::turn(
+            reader,
+            feed::window(buf, hand),
+            hand.ended,
+            most,
+            counts,
+            &mut rows,
+            &mut inputs,
+            &mut formers,
+        );
+        let next_reader = turned.reader;
+        let next_counts = turned.counts;
+        reader = next_reader;
+        counts = next_counts;
+        most = less(most, turned.count);
+        let fed = fed_on(turned.wants, buf, feed::pass(hand, turned.used));
+        let next_hand = fed.hand;
+        hand = next_hand;
+        failed = fed.failed;
+        turns = fewer(turns, goes_on(turned.over, failed));
+    }
+    if failed {
+        return;
+    }
+    print_rewound(rewinding::rewind_lent(reader, counts, &rows, &inputs, &formers, wanted.tick));
+}
+
+fn refuse(refusal: Refusal) {
+    let mut line = [0u8; 138];
+    let Wrote::Past(n) = lines::write_last(Ending::Refused(refusal), &mut line, 0) else {
+        return;
+    };
+    print(&line, n);
+}
+
+fn number(b: u8) -> i32 {
+    b as i32
+}
+
+fn first_of(version: Version, hand: Hand, goes: bool) -> First {
+    First {
+        reader: Reader::empty(version),
+        hand: feed::pass(hand, 1),
+        goes,
+    }
+}
+
+// No turn follows.
+fn none(refusal: Refusal, hand: Hand) -> First {
+    refuse(refusal);
+    first_of(Version::V1, hand, false)
+}
+
+// The version byte.
+fn behind_version(number: i32, hand: Hand) -> First {
+    match kinds::version_of(number) {
+        VersionOf::Is(version) => first_of(version, hand, true),
+        VersionOf::Refused(refusal) => none(refusal, hand),
+    }
+}
+
+// After the first read. A body that ends before its version byte is refused 2.
+fn begun(fed: Fed, buf: &[u8]) -> First {
+    let hand = fed.hand;
+    if fed.failed {
+        return first_of(Version::V1, hand, false);
+    }
+    if hand.ended {
+        return none(Refusal::UnknownVersion, hand);
+    }
+    if buf.len() == 0 {
+        return none(Refusal::UnknownVersion, hand);
+    }
+    behind_version(number(buf[0]), hand)
+}
+
+fn begin(buf: &mut [u8]) -> First {
+    let fed = read_on(buf, Hand::empty());
+    begun(fed, buf)
+}
+
+// The array that main lends.
+fn buffer() -> [u8; 131072]
+    ensures { λ r. ⌜ 131072 ≡ length r ⌝ }
+{
+    [0; 131072]
+}
+
+fn run(wanted: Wanted) {
+    let mut buf = buffer();
+    let first = begin(&mut buf);
+    if first.goes {
+        rewind(first, wanted, &mut buf);
+    }
+}
+
+fn main() {
+    let wanted = arguments();
+    if wanted.good {
+        run(wanted);
+        return;
+    }
+    say(b"usage: rewind TICK [0 [EVENTS]], each a number up to 2147483647\n");
+}
