@@ -1,11 +1,14 @@
 //! Reading and replaying the same bodies by libtw2 and by the proved reader: bench DIR ROUNDS
 //!
-//! DIR holds bodies named SORT-MEGABYTES, each after its version byte; both replay programs and ladder are run on them.
+//! DIR holds bodies named SORT-MEGABYTES, each after its version byte; both replay programs and ladder are run on them. A small body named
+//! SORT-small is rewound.
 
 mod programs;
 mod readers;
 mod report;
+mod rewind;
 
+use readers::Reel;
 use report::Report;
 use std::io;
 use std::path::Path;
@@ -44,6 +47,8 @@ fn run(directory: &Path, rounds: u32) -> io::Result<()> {
             reports.push(report);
         }
         report::growth(sort, &reports);
+        let each = reports[1].many_each();
+        rewind::measure(sort, &directory.join(format!("{sort}-small")), each)?;
     }
     Ok(())
 }
@@ -55,6 +60,7 @@ fn measure(file: &Path, rounds: u32) -> io::Result<Report> {
         .ok_or_else(|| oracle::invalid("an empty body"))?;
     let events = readers::libtw2(*version, body)?;
     let mut report = Report::new(events, body.len() as u64);
+    let mut reel = Reel::new();
     for round in 0..rounds.max(1) {
         report.readers[0].time(|| readers::libtw2(*version, body))?;
         report.readers[1].time(|| readers::many(*version, body))?;
@@ -65,6 +71,7 @@ fn measure(file: &Path, rounds: u32) -> io::Result<Report> {
         }
         report.programs[0].run(ORACLE, &["replay"], file)?;
         report.programs[1].run(REPLAY, &[], file)?;
+        report.kept.time(|| readers::kept(*version, body, &mut reel))?;
         report.list.time(|| readers::list(*version, body))?;
         report.ladder.run(LADDER, &[], file)?;
     }

@@ -19,6 +19,49 @@ extern "C" {
         ticks: *mut [i32; 128],
         two: *mut [u64; 2],
     ) -> usize;
+    fn jolzerv_read_kept(
+        second: bool,
+        body: *const u8,
+        length: usize,
+        rows: *mut [i32; 5120],
+        inputs: *mut [i32; 5120],
+        formers: *mut [i32; 5120],
+        two: *mut [usize; 2],
+    ) -> usize;
+    fn jolzerv_rewind_body(
+        second: bool,
+        body: *const u8,
+        length: usize,
+        tick: i32,
+        rows: *mut [i32; 5120],
+        inputs: *mut [i32; 5120],
+        formers: *mut [i32; 5120],
+        marks: *mut [u8; 128],
+        xs: *mut [i32; 128],
+        ys: *mut [i32; 128],
+        held: *mut [u8; 128],
+        numbers: *mut [i32; 1280],
+    ) -> u8;
+}
+
+/// A reel, ten numbers for each of 512 places.
+pub struct Reel {
+    pub rows: [i32; 5120],
+    pub inputs: [i32; 5120],
+    pub formers: [i32; 5120],
+    /// The next place, and how many rows are kept.
+    pub counts: [usize; 2],
+}
+
+impl Reel {
+    pub fn new() -> Reel {
+        Reel {
+            rows: [0; 5120],
+            inputs: [0; 5120],
+            formers: [0; 5120],
+            counts: [0; 2],
+        }
+    }
 }
 
 pub fn libtw2(version: u8, body: &[u8]) -> io::Result<u64> {
@@ -48,6 +91,49 @@ pub fn lent(version: u8, body: &[u8]) -> io::Result<u64> {
 pub fn many(version: u8, body: &[u8]) -> io::Result<u64> {
     // SAFETY: a pointer and a length of one slice, which the call only reads
     Ok(unsafe { jolzerv_count_many(version == 2, body.as_ptr(), body.len()) })
+}
+
+/// The proved reader, many events a call, with a reel beside.
+pub fn kept(version: u8, body: &[u8], reel: &mut Reel) -> io::Result<u64> {
+    // SAFETY: a pointer and a length of one slice, which the call only reads, and pointers to four arrays that it fills
+    let events = unsafe {
+        jolzerv_read_kept(
+            version == 2,
+            body.as_ptr(),
+            body.len(),
+            &mut reel.rows,
+            &mut reel.inputs,
+            &mut reel.formers,
+            &mut reel.counts,
+        )
+    };
+    black_box(&*reel);
+    Ok(events as u64)
+}
+
+/// The same, then a rewind to a tick: 0, or the number of the refusal.
+pub fn rewound(version: u8, body: &[u8], tick: i32, reel: &mut Reel) -> u8 {
+    let (mut marks, mut xs, mut ys) = ([0; 128], [0; 128], [0; 128]);
+    let (mut held, mut numbers) = ([0; 128], [0; 1280]);
+    // SAFETY: a pointer and a length of one slice, which the call only reads, and pointers to eight arrays that it fills
+    let answer = unsafe {
+        jolzerv_rewind_body(
+            version == 2,
+            body.as_ptr(),
+            body.len(),
+            tick,
+            &mut reel.rows,
+            &mut reel.inputs,
+            &mut reel.formers,
+            &mut marks,
+            &mut xs,
+            &mut ys,
+            &mut held,
+            &mut numbers,
+        )
+    };
+    black_box((&marks, &xs, &ys, &held, &numbers));
+    answer
 }
 
 /// The results list by the proved reader: how many rows it has.

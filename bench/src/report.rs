@@ -49,6 +49,7 @@ const READERS: [&str; 4] = [
     "one event, by value",
 ];
 const PROGRAMS: [&str; 2] = ["libtw2 replay", "replay"];
+const KEPT: &str = "with a reel beside";
 const LIST: &str = "results list";
 const LADDER: &str = "ladder";
 
@@ -58,7 +59,8 @@ pub struct Report {
     /// libtw2's first: the others are held to it.
     pub readers: [Best; 4],
     pub programs: [Best; 2],
-    /// libtw2 has no results list. The call on a body and the program are held to the reader of many events a call.
+    /// libtw2 has no reel and no results list. The calls on a body and the program are held to the reader of many events a call.
+    pub kept: Best,
     pub list: Best,
     pub ladder: Best,
 }
@@ -70,13 +72,19 @@ impl Report {
             bytes,
             readers: READERS.map(Best::new),
             programs: PROGRAMS.map(Best::new),
+            kept: Best::new(KEPT),
             list: Best::new(LIST),
             ladder: Best::new(LADDER),
         }
     }
+    /// The time of an event, many a call, in nanoseconds.
+    pub fn many_each(&self) -> f64 {
+        self.readers[1].nanoseconds() / self.events.max(1) as f64
+    }
     /// Whether all readers read the same number of events.
     pub fn check(&self) -> io::Result<()> {
-        match self.readers.iter().find(|r| r.number != self.events) {
+        let mut readers = self.readers.iter().chain([&self.kept]);
+        match readers.find(|r| r.number != self.events) {
             Some(r) => Err(io::Error::other(format!(
                 "{} read {} events, libtw2 {}",
                 r.name, r.number, self.events
@@ -96,10 +104,9 @@ impl Report {
             let line = self.line(best, &self.programs[0], "libtw2's");
             println!("{line}  {}", memory(best));
         }
-        println!(
-            "{}",
-            self.line(&self.list, &self.readers[1], "count_many's")
-        );
+        for best in [&self.kept, &self.list] {
+            println!("{}", self.line(best, &self.readers[1], "count_many's"));
+        }
         let line = self.line(&self.ladder, &self.readers[1], "count_many's");
         println!("{line}  {}", memory(&self.ladder));
     }
@@ -127,6 +134,7 @@ pub fn growth(sort: &str, reports: &[Report]) {
     for (index, name) in PROGRAMS.iter().enumerate() {
         print_growth(sort, name, reports, |r| r.programs[index].nanoseconds());
     }
+    print_growth(sort, KEPT, reports, |r| r.kept.nanoseconds());
     print_growth(sort, LIST, reports, |r| r.list.nanoseconds());
     print_growth(sort, LADDER, reports, |r| r.ladder.nanoseconds());
 }
