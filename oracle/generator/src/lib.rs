@@ -15,10 +15,10 @@ mod record_lines;
 mod short;
 
 pub use integer_lines::integer_lines;
+pub use random::Random;
 pub use record_lines::record_lines;
 
 use play::Style;
-use random::Random;
 
 #[derive(Clone, Copy, PartialEq)]
 pub enum Sort {
@@ -42,9 +42,11 @@ pub enum Sort {
     Long,
     /// PlayerFinish records: their limits in a fixed list first, then races.
     Finishes,
+    /// More events than a reel keeps: a few players that come, go and act.
+    Reels,
 }
 
-pub const SORTS: [Sort; 10] = [
+pub const SORTS: [Sort; 11] = [
     Sort::Match,
     Sort::Moves,
     Sort::Inputs,
@@ -55,6 +57,7 @@ pub const SORTS: [Sort; 10] = [
     Sort::Short,
     Sort::Long,
     Sort::Finishes,
+    Sort::Reels,
 ];
 
 impl Sort {
@@ -70,6 +73,7 @@ impl Sort {
             Sort::Short => "short",
             Sort::Long => "long",
             Sort::Finishes => "finishes",
+            Sort::Reels => "reels",
         }
     }
     pub fn named(name: &str) -> Option<Sort> {
@@ -99,6 +103,7 @@ pub fn input(sort: Sort, seed: u64, index: u64) -> Vec<u8> {
         Sort::Short => short::input(index, &mut random),
         Sort::Long => long::input(index, &mut random),
         Sort::Finishes => finishes::input(index, &mut random),
+        Sort::Reels => play::reels(&mut random),
     }
 }
 
@@ -114,5 +119,6 @@ pub fn sized(sort: Sort, seed: u64, size: usize) -> Vec<u8> {
         Sort::Damaged => noise::sized_damaged(size, &mut random),
         Sort::Limits => limits::sized(size, &mut random),
         Sort::Finishes => finishes::sized(size, &mut random),
+        Sort::Reels => play::sized(Style::Reels, size, &mut random),
     }
 }

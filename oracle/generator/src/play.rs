@@ -13,6 +13,8 @@ pub enum Style {
     Moves,
     Inputs,
     Chat,
+    /// Players that come, go and act, few at a time.
+    Reels,
 }
 
 /// How often each thing happens in a style: once in this many chances, or never for 0.
@@ -32,6 +34,7 @@ impl Style {
             Style::Moves => (4, 400, 6, 0, 0, 40),
             Style::Inputs => (4, 200, 3, 1, 0, 20),
             Style::Chat => (10, 60, 2, 0, 2, 4),
+            Style::Reels => (2, 6, 3, 2, 25, 6),
         };
         Habits {
             join,
@@ -72,6 +75,18 @@ pub fn input(style: Style, random: &mut Random) -> Vec<u8> {
     let mut play = Play::new(style, odd, random);
     play.until(size, random);
     if random.one_in(4) {
+        return play.body.done();
+    }
+    play.body.finish().done()
+}
+
+/// Of some hundred events up to two thousand, one in six without an end.
+pub fn reels(random: &mut Random) -> Vec<u8> {
+    let size = 1500 + random.below(6000);
+    let mut play = Play::new(Style::Reels, 0, random);
+    play.clients = random.pick(&[1, 2, 4, 8]);
+    play.until(size, random);
+    if random.one_in(6) {
         return play.body.done();
     }
     play.body.finish().done()

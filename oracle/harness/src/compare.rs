@@ -1,9 +1,10 @@
-//! `oracle compare N SEED REPLAY LOOKUPS LADDER`: the programs against libtw2 on generated inputs.
+//! `oracle compare N SEED REPLAY LOOKUPS LADDER REWIND`: the programs against libtw2 on generated inputs.
 
 use crate::batch::Batch;
 use crate::expected::expected;
 use crate::expected::Left;
 use crate::lists::Lists;
+use crate::rewinds::Rewinds;
 use crate::subject::Subject;
 use crate::subject::Task;
 use generator::Sort;
@@ -18,6 +19,7 @@ pub struct Programs<'a> {
     pub replay: &'a str,
     pub lookups: &'a str,
     pub ladder: &'a str,
+    pub rewind: &'a str,
 }
 
 #[derive(Default)]
@@ -32,6 +34,7 @@ pub fn command(count: u64, seed: u64, programs: &Programs) -> io::Result<ExitCod
     let mut total = Count::default();
     let mut batch = Batch::new(programs.lookups);
     let mut lists = Lists::new(programs.ladder);
+    let mut rewinds = Rewinds::new(programs.rewind);
     let mut parts = Vec::new();
     for sort in generator::SORTS {
         let inputs = sort_count(sort, count);
@@ -40,15 +43,19 @@ pub fn command(count: u64, seed: u64, programs: &Programs) -> io::Result<ExitCod
             let origin = format!("generate {} {seed} {index}", sort.name());
             compare_one(programs.replay, &input, &origin, &mut total)?;
             lists.compare(&input, &origin)?;
+            rewinds.add(&[seed, sort as u64, index], input.clone(), origin.clone())?;
             batch.add(index, input, origin)?;
         }
         parts.push(format!("{} {inputs}", sort.name()));
     }
     batch.compare()?;
+    rewinds.compare()?;
     println!("{}", summary(seed, &parts, &total));
     println!("{}", batch.summary());
     println!("{}", lists.summary());
-    let differences = total.differences + batch.differences() + lists.differences();
+    println!("{}", rewinds.summary());
+    let differences =
+        total.differences + batch.differences() + lists.differences() + rewinds.differences();
     Ok(ExitCode::from(u8::from(differences > 0)))
 }
 

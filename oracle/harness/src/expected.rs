@@ -69,7 +69,7 @@ pub fn read(input: &[u8], mut show: impl FnMut(&Item)) -> End {
 }
 
 /// None if there is no version, or another than 1 and 2.
-fn start(input: &[u8]) -> Option<Run<'_>> {
+pub fn start(input: &[u8]) -> Option<Run<'_>> {
     let (version, body) = input.split_first()?;
     let pace = if body.len() < WINDOW {
         Pace::Whole

@@ -69,7 +69,7 @@ pub fn framed(input: &[u8], when: When) -> Vec<u8> {
 }
 
 /// Bytes after their length.
-fn measured(bytes: &[u8]) -> Vec<u8> {
+pub fn measured(bytes: &[u8]) -> Vec<u8> {
     let size = bytes.len().to_le_bytes();
     [&size[..WIDTH], bytes].concat()
 }

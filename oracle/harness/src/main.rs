@@ -7,10 +7,12 @@ use oracle::framed;
 use oracle::input;
 use oracle::integers;
 use oracle::invalid;
+use oracle::jumps;
 use oracle::ladder;
 use oracle::lookups;
 use oracle::records;
 use oracle::replay;
+use oracle::rewind;
 use std::io;
 use std::process::ExitCode;
 
@@ -20,11 +22,15 @@ const USAGE: &str = "usage:
   oracle ladder                                < INPUT
   oracle ladders                               < INPUTS
   oracle lookups                               < INPUTS
+  oracle rewind TICK [0 [EVENTS]]              < INPUT
+  oracle rewinds                               < CASES
+  oracle rewind_cases                          < LINES
+  oracle reel                                  < INPUT
   oracle framed                                < LINES
   oracle records                               < LINES
   oracle integers                              < LINES
   oracle bench FILE ROUNDS
-  oracle compare N SEED REPLAY LOOKUPS LADDER";
+  oracle compare N SEED REPLAY LOOKUPS LADDER REWIND";
 
 fn main() -> ExitCode {
     let arguments: Vec<String> = std::env::args().skip(1).collect();
@@ -45,21 +51,34 @@ fn command(words: &[&str]) -> io::Result<ExitCode> {
         ["ladder"] => print!("{}", ladder::ladder(&input()?).text),
         ["ladders"] => ladder::command()?,
         ["lookups"] => lookups::command()?,
+        ["rewind", tick] | ["rewind", tick, "0"] => print!("{}", rewound(tick, None)?),
+        ["rewind", tick, "0", events] => print!("{}", rewound(tick, Some(number(events)?))?),
+        ["rewinds"] => jumps::command()?,
+        ["rewind_cases"] => jumps::cases()?,
+        ["reel"] => print!("{}", jumps::reel(&input()?)),
         ["framed"] => framed::command()?,
         ["records"] => records::command()?,
         ["integers"] => integers::command()?,
         ["bench", file, rounds] => bench::command(file, number(rounds)?)?,
-        ["compare", count, seed, replay, lookups, ladder] => {
+        ["compare", count, seed, replay, lookups, ladder, rewind] => {
             let programs = compare::Programs {
                 replay,
                 lookups,
                 ladder,
+                rewind,
             };
             return compare::command(number(count)?, number(seed)?, &programs);
         }
         _ => return Err(invalid(USAGE)),
     }
     Ok(ExitCode::SUCCESS)
+}
+
+/// What the program rewind prints.
+fn rewound(tick: &str, limit: Option<u64>) -> io::Result<String> {
+    let tick = jumps::tick(tick).ok_or_else(|| invalid(&format!("{tick} is not a tick")))?;
+    let past = rewind::Past::of(&input()?, limit);
+    Ok(past.rewound(tick).text())
 }
 
 fn number(word: &str) -> io::Result<u64> {

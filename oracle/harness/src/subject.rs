@@ -4,6 +4,7 @@ use crate::expected::expected;
 use crate::fields::hex;
 use crate::framed::framed;
 use crate::framed::When;
+use crate::jumps::Jumps;
 use crate::ladder::ladder;
 use crate::lookups::lookups;
 use crate::program::output;
@@ -15,7 +16,7 @@ use std::io::Write;
 /// So much output beyond the expected one is kept.
 const SURPLUS: usize = 1000;
 
-#[derive(Clone, Copy)]
+#[derive(Clone)]
 pub enum Task {
     /// The replay program's lines.
     Replay,
@@ -23,6 +24,8 @@ pub enum Task {
     Lookups(When),
     /// The list that the program ladder prints.
     Ladder,
+    /// The boards that rewind_vectors prints for these ticks.
+    Rewind(Jumps),
 }
 
 pub struct Subject<'a> {
@@ -32,17 +35,19 @@ pub struct Subject<'a> {
 
 impl Subject<'_> {
     /// The bytes that the program reads for an input.
-    fn given(&self, input: &[u8]) -> Vec<u8> {
-        match self.task {
+    pub fn given(&self, input: &[u8]) -> Vec<u8> {
+        match &self.task {
             Task::Replay | Task::Ladder => input.to_vec(),
-            Task::Lookups(when) => framed(input, when),
+            Task::Lookups(when) => framed(input, *when),
+            Task::Rewind(jumps) => jumps.framed(input),
         }
     }
     fn wanted(&self, input: &[u8]) -> String {
-        match self.task {
+        match &self.task {
             Task::Replay => expected(input).text,
-            Task::Lookups(when) => lookups(input, when).text,
+            Task::Lookups(when) => lookups(input, *when).text,
             Task::Ladder => ladder(input).text,
+            Task::Rewind(jumps) => jumps.text(input),
         }
     }
     /// What the program prints for what it reads, as far as it can matter.
@@ -53,7 +58,7 @@ impl Subject<'_> {
     pub fn prints(&self, given: &[u8], wanted: &str) -> io::Result<bool> {
         let printed = self.printed(given, wanted)?;
         Ok(match self.task {
-            Task::Replay | Task::Lookups(_) => printed == wanted,
+            Task::Replay | Task::Lookups(_) | Task::Rewind(_) => printed == wanted,
             Task::Ladder => settled(&printed) == wanted,
         })
     }
@@ -65,13 +70,44 @@ impl Subject<'_> {
         println!("first difference of {}: {origin}", self.program);
         self.report(input)?;
         println!("made shorter:");
-        let shorter = shrink(input.to_vec(), |candidate| self.differs(candidate))?;
-        self.report(&shorter)
+        let shorter = shrink(input.to_vec(), |candidate| {
+            self.fitted(candidate, input).differs(candidate)
+        })?;
+        let fitted = self.fitted(&shorter, input);
+        fitted.narrowed(&shorter)?.report(&shorter)
+    }
+    fn with(&self, task: Task) -> Self {
+        Subject {
+            program: self.program,
+            task,
+        }
+    }
+    /// The same task for a shorter form of an input.
+    fn fitted(&self, shorter: &[u8], input: &[u8]) -> Self {
+        match &self.task {
+            Task::Rewind(jumps) => self.with(Task::Rewind(jumps.fitted(shorter, input))),
+            task => self.with(task.clone()),
+        }
+    }
+    /// With one tick alone, if the program differs there.
+    fn narrowed(self, input: &[u8]) -> io::Result<Self> {
+        if let Task::Rewind(jumps) = &self.task {
+            for one in jumps.each() {
+                let single = self.with(Task::Rewind(one));
+                if single.differs(input)? {
+                    return Ok(single);
+                }
+            }
+        }
+        Ok(self)
     }
     fn report(&self, input: &[u8]) -> io::Result<()> {
         let wanted = self.wanted(input);
         let mut out = io::stdout().lock();
         writeln!(out, "input: {}", hex(input))?;
+        if let Task::Rewind(jumps) = &self.task {
+            writeln!(out, "rewound {jumps}")?;
+        }
         writeln!(out, "libtw2, with what it lacks put in:")?;
         write!(out, "{wanted}")?;
         writeln!(out, "the program:")?;
