@@ -1,7 +1,7 @@
 // Rewinds bodies and prints what the rewind program prints of them. Standard input holds cases one behind the other, each after its length in
 // three bytes, the low one first: the number of ticks in a byte, the ticks in four bytes each, the most events in four bytes (all ones: as many
-// as there are), a version byte, a body. Each tick is rewound to by the call on lent arrays and by the one by value; where they differ a
-// line says so.
+// as there are), a version byte, a body. Each tick is rewound to by the call on lent arrays, by the one by value and by the one for C and Rust
+// programs; where they differ a line says so.
 use back::Board;
 use feed::Hand;
 use kinds::Version;
@@ -13,6 +13,7 @@ use reel::Reel;
 use refusal::Refusal;
 use rewinding::RewindAnswer;
 use rewinding::Rewound;
+use state::Entries;
 use state::Reader;
 use texts::Text;
 use varint::Wrote;
@@ -62,10 +63,11 @@ fn come(hand: Hand, wants: bool, len: usize) -> Hand {
 
 // ---- a body
 
-// Reader and reel after a body.
+// Reader and reel after a body, and how many events were read.
 struct Read {
     reader: Reader,
     reel: Reel,
+    events: usize,
 }
 
 // The body comes in pieces, a piece where a turn wants more. Reader and reel stay in this function.
@@ -108,6 +110,7 @@ fn read_body(version: Version, body: &[u8], events: usize) -> Read {
             inputs,
             formers,
         },
+        events: cases::difference(events, most),
     }
 }
 
@@ -126,6 +129,85 @@ fn same_answer(a: Rewound, b: Rewound) -> bool {
     alike::same_board(one, other) & (number_of(first) == number_of(second))
 }
 
+fn is_second(version: Version) -> bool {
+    match version {
+        Version::V1 => false,
+        Version::V2 => true,
+    }
+}
+
+// Whether the body read whole, by the call for C and Rust programs, leaves a reel with these counts after so many events.
+fn same_read(version: Version, body: &[u8], counts: Counts, events: usize) -> bool {
+    let mut rows = [0i32; 5120];
+    let mut inputs = [0i32; 5120];
+    let mut formers = [0i32; 5120];
+    let mut two = [0usize; 2];
+    let n = rewind_linked::jolzerv_read_kept(
+        is_second(version),
+        body,
+        &mut rows,
+        &mut inputs,
+        &mut formers,
+        &mut two,
+    );
+    (n == events) & (two[0] == counts.next) & (two[1] == counts.count)
+}
+
+// Whether such a call that rewinds answers the same.
+fn same_linked(version: Version, body: &[u8], tick: i32, rewound: Rewound) -> bool {
+    let mut rows = [0i32; 5120];
+    let mut tens = [0i32; 5120];
+    let mut formers = [0i32; 5120];
+    let mut marks = [2u8; 128];
+    let mut xs = [2i32; 128];
+    let mut ys = [2i32; 128];
+    let mut held = [2u8; 128];
+    let mut inputs = [2i32; 1280];
+    let number = rewind_linked::jolzerv_rewind_body(
+        is_second(version),
+        body,
+        tick,
+        &mut rows,
+        &mut tens,
+        &mut formers,
+        &mut marks,
+        &mut xs,
+        &mut ys,
+        &mut held,
+        &mut inputs,
+    );
+    let entries = Entries {
+        marks,
+        xs,
+        ys,
+        held,
+        inputs,
+    };
+    let board: Board = rewound.board;
+    let other = board.entries;
+    let answer = rewound.answer;
+    alike::same_entries(entries, other) & (number == number_of(answer))
+}
+
+// The calls for C and Rust programs read a body whole, without a window: they are held to the turns on bodies that fit a window and are read to
+// their end.
+fn is_whole(body: &[u8], events: usize) -> bool {
+    (body.len() < 65536) & (events == 18446744073709551615)
+}
+
+fn hold_linked(version: Version, body: &[u8], read: Read, tick: i32) {
+    let reader = read.reader;
+    let reel = read.reel;
+    let counts = reel.counts;
+    let rewound = rewinding::rewind(reader, reel, tick);
+    if !same_read(version, body, counts, read.events) {
+        say(b"read in memory it differs\n");
+    }
+    if !same_linked(version, body, tick, rewound) {
+        say(b"rewound in memory it differs\n");
+    }
+}
+
 fn rewind(read: Read, tick: i32) {
     let reader = read.reader;
     let reel = read.reel;
@@ -142,10 +224,14 @@ fn rewind(read: Read, tick: i32) {
 
 fn run_body(version: Version, body: &[u8], events: usize, case: &[u8]) {
     let read = read_body(version, body, events);
+    let whole = is_whole(body, events);
     let ticks = cases::size(cases::byte(case, 0));
     for k in 0..ticks {
-        let tick = wide(cases::window(case, 1 + 4 * k, case.len()));
-        rewind(read, num::signed(tick));
+        let tick = num::signed(wide(cases::window(case, 1 + 4 * k, case.len())));
+        rewind(read, tick);
+        if whole {
+            hold_linked(version, body, read, tick);
+        }
     }
 }
 
