@@ -83,9 +83,6 @@ undoIn ns =
 
 -- ---- the reel: 512 places, one after the other, the first after the last
 
-abbrev pub reelRoom : ℕ
-reelRoom = 512
-
 abbrev pub placeBefore : ℕ → ℕ
 placeBefore zero = 511
 placeBefore (suc p) = p
