@@ -1,8 +1,8 @@
 -- Rewinding beside a reader (specs/Laws.antt). Assumes nothing.
-use Prim.Native.Nat.{ℕ, zero, suc, _+_, _≤_, _<_}
-use mathlib.Core.Path.{_≡_, refl, sym, subst, ap, _∙_}
+use Prim.Native.Nat.{ℕ, zero, suc, _+_, _<_}
+use mathlib.Core.Path.{_≡_, refl, sym, ap, _∙_}
 use mathlib.Core.Bool.{Bool, true, false, cond, false≢true, _&&_}
-use mathlib.Core.List.{List, [], _∷_, _++_, map, append-assoc, append-nil}
+use mathlib.Core.List.{List, [], _∷_, _++_, map}
 use native.Mathlib.Omega.{arith}
 use lib.ListN.{length, take}
 use lib.Seq.{take-take, take-append-seam}
@@ -10,8 +10,7 @@ use lib.Dec.{ltb, eqb}
 use lib.IntN.{ℤ}
 use borrow.Author.Tests.{ltb-true}
 use Rattle.refusal.specs.Numbers.{numberOf}
-use Rattle.refusal.specs.declared.Refusal.{Refusal}
-use Rattle.refusal.specs.declared.Refusal.the-variants.{Closed, NotLast, TickGone}
+use Rattle.refusal.specs.declared.Refusal.the-variants.{Closed, TickGone}
 use Rattle.item.specs.Said.{Said, gives, more, finish, refuses}
 use Rattle.kinds.specs.declared.Version.{Version}
 use Rattle.state.specs.State.{goodReader, emptyReader}
@@ -22,19 +21,18 @@ use Rattle.state.proofs.Theorems.{empty-sound}
 use Rattle.calls.specs.Calls.{Call, call, next, Seen, seenIn, after, events, eventOf}
 use Rattle.back.specs.Board.{boardOf}
 use Rattle.back.specs.Back.{Back, was, refused}
-use Rattle.back.specs.Undo.{undoOf}
 use Rattle.back.specs.declared.Board.{Board}
-use Rattle.demand.specs.Events.{meets13}
 use Rattle.demand.proofs.Theorem.{demand-3}
 use Rattle.reel.specs.Reel.{Row, goodReel, rowsOf, emptyReel}
 use Rattle.reel.specs.declared.Reel.{Reel}
 use Rattle.reeling.specs.Reeling.{reelAfter}
-use Rattle.reeling.specs.Laws.{rowOf, HoldsLast}
+use Rattle.reeling.specs.Laws.{rowOf}
 use Rattle.reeling.proofs.Theorems.{map-append, reel-holds-last}
-use Rattle.rewinding.specs.Rewinding.{isStart, Newer, newer, gone, newerThan, stepOver, closedByRefusal, copyOf, stepBackTo, rewindTo}
-use Rattle.rewind_laws.specs.Laws.{Had, had, never, startsIn, orElse, hadAfter, ifAmong512, Rewinds, RewindsToTick}
+use Rattle.rewinding.specs.Rewinding.{newer, gone, newerThan, stepOver, closedByRefusal, soughtOf, soughtIn, stepBackTo, rewindTo}
+use Rattle.rewinding.specs.declared.Sought.the-variants as soughts
+use Rattle.rewind_laws.specs.Laws.{Had, had, never, startsIn, orElse, hadAfter, ifAmong512, RewindsToTick}
 use Rattle.rewind_laws.proofs.Standing.{after-append, events-append, after-sound, quiet}
-use Rattle.rewind_laws.proofs.Walk.{within, newer-take, orOlder, newer-append, differ, over-back}
+use Rattle.rewind_laws.proofs.Walk.{within, newer-take, orOlder, newer-append, over-back}
 
 -- ---- lists
 
@@ -50,10 +48,10 @@ map-take (suc n) (x ∷ xs) = ap (λ (l : List Row). rowOf x ∷ l) (map-take n 
 -- ---- where the newest TickStart of a tick stands in calls
 
 module _ (t : ℤ) where
-  abbrev rowsIn : Reader → List Call → List Row
+  abbrev pub rowsIn : Reader → List Call → List Row
   rowsIn r cs = map rowOf (events r cs)
 
-  data Split (r : Reader) (cs : List Call) : Had → Type 0 where
+  pub data Split (r : Reader) (cs : List Call) : Had → Type 0 where
     none : newerThan t (rowsIn r cs) ≡ gone → Split r cs never
     some : (upto behind : List Call) → cs ≡ upto ++ behind → newerThan t (rowsIn r cs) ≡ newer (length (events (after r upto) behind))
         → Split r cs (had (boardOf (after r upto)) (length (events (after r upto) behind)))
@@ -87,7 +85,7 @@ module _ (t : ℤ) where
   split-call r c cs never (none q) = split-here r c cs (startsIn t (eventOf r c)) (rw q at (of-call r c cs))
   split-call r c cs (had b n) (some upto behind e q) = some (c ∷ upto) behind (ap (λ (l : List Call). c ∷ l) e) (rw q at (of-call r c cs))
 
-  split : (cs : List Call) (r : Reader) → Split r cs (hadAfter t r cs)
+  pub split : (cs : List Call) (r : Reader) → Split r cs (hadAfter t r cs)
   unfolding hadAfter events newerThan
   split [] r = none refl
   split (c ∷ cs) r = split-call r c cs (hadAfter t (next r c) cs) (split cs (next r c))
@@ -95,30 +93,30 @@ module _ (t : ℤ) where
 -- ---- calls from an empty reader, cut anywhere
 
 module _ (v : Version) (before since : List Call) where
-  abbrev start : Reader
+  abbrev pub start : Reader
   start = after (emptyReader v) before
 
-  abbrev end : Reader
+  abbrev pub end : Reader
   end = after start since
 
-  abbrev reel : Reel
+  abbrev pub reel : Reel
   reel = reelAfter emptyReel start since
 
-  abbrev rows : List Row
+  abbrev pub rows : List Row
   rows = map rowOf (events start since)
 
-  sound : Sound end
+  pub sound : Sound end
   sound = after-sound since (after-sound before (empty-sound v))
 
-  rows-are : rowsOf reel ≡ take 512 rows
+  pub rows-are : rowsOf reel ≡ take 512 rows
   rows-are = reel-holds-last start since .holds
 
-  goods : (goodReader end && goodReel reel) ≡ true
+  pub goods : (goodReader end && goodReel reel) ≡ true
   goods = rw (sound .good, reel-holds-last start since .sound .good)
 
   -- demand 3, from a place in the calls since the cut
   module _ (upto behind : List Call) (e : since ≡ upto ++ behind) (unrefused : closedByRefusal (end .scalars .standing) ≡ false) where
-    abbrev newest : List Seen
+    abbrev pub newest : List Seen
     newest = events (after start upto) behind
 
     there : after (emptyReader v) (before ++ upto) ≡ after start upto
@@ -129,12 +127,12 @@ module _ (v : Version) (before since : List Call) where
         after-append (emptyReader v) (before ++ upto) behind ∙ ap (λ (r : Reader). after r behind) there
         ∙ sym (after-append start upto behind) ∙ ap (after start) (sym e)
 
-    back : stepOver (map rowOf newest) (boardOf end) ≡ record { fits = true; board = boardOf (after start upto) }
+    pub back : stepOver (map rowOf newest) (boardOf end) ≡ record { fits = true; board = boardOf (after start upto) }
     back =
         let q = quiet ((before ++ upto) ++ behind) (emptyReader v) (rw here unrefused) in
         over-back newest (boardOf end) (boardOf (after start upto)) (rw (here, there) at (demand-3 v (before ++ upto) behind q .back))
 
-    taken : length newest < 512 → take (length newest) (take 512 rows) ≡ map rowOf newest
+    pub taken : length newest < 512 → take (length newest) (take 512 rows) ≡ map rowOf newest
     taken h =
         let all : rows ≡ map rowOf newest ++ map rowOf (events start upto) = ap (λ (cs : List Call). map rowOf (events start cs)) e ∙ ap (map rowOf) (events-append start upto behind) ∙ map-append newest (events start upto) in
         take-take (length newest) 512 rows (omega arith)
@@ -142,13 +140,13 @@ module _ (v : Version) (before since : List Call) where
         ∙ take-append-seam (map rowOf newest) (map rowOf (events start upto))
 
     in-room : (b : Bool) → ltb (length newest) 512 ≡ b
-        → stepBackTo (take 512 rows) (boardOf end) (cond b (newer (length newest)) gone)
+        → stepBackTo (take 512 rows) (boardOf end) (soughtOf (cond b (newer (length newest)) gone))
         ≡ cond b (was (boardOf (after start upto))) (refused TickGone)
     in-room true q = rw (taken (ltb-true (length newest) 512 q), back)
     in-room false q = refl
 
   among : (t : ℤ) (h : Had) → Split t start since h → closedByRefusal (end .scalars .standing) ≡ false
-      → stepBackTo (take 512 rows) (boardOf end) (within 512 (newerThan t rows)) ≡ ifAmong512 h
+      → stepBackTo (take 512 rows) (boardOf end) (soughtOf (within 512 (newerThan t rows))) ≡ ifAmong512 h
   among t never (none q) unrefused = rw q
   among t (had b n) (some upto behind e q) unrefused = rw q (in-room upto behind e unrefused (ltb (length (events (after start upto) behind)) 512) refl)
 
@@ -156,13 +154,13 @@ module _ (v : Version) (before since : List Call) where
   answer t = cond (closedByRefusal (end .scalars .standing)) (refused Closed) (ifAmong512 (hadAfter t start since))
 
   by-standing : (t : ℤ) (b : Bool) → closedByRefusal (end .scalars .standing) ≡ b
-      → cond b (refused Closed) (stepBackTo (rowsOf reel) (boardOf end) (newerThan t (rowsOf reel)))
+      → stepBackTo (rowsOf reel) (boardOf end) (cond b (soughts.Refused Closed) (soughtOf (newerThan t (rowsOf reel))))
       ≡ cond b (refused Closed) (ifAmong512 (hadAfter t start since))
   by-standing t true q = refl
   by-standing t false q = rw (rows-are, newer-take t 512 rows) (among t (hadAfter t start since) (split t since start) q)
 
   rewinds : (t : ℤ) → rewindTo end reel t ≡ answer t
-  unfolding rewindTo
+  unfolding rewindTo soughtIn
   rewinds t = rw goods (by-standing t (closedByRefusal (end .scalars .standing)) refl)
 
 -- ---- 19 never comes

@@ -1,3 +1,4 @@
 pub mod Rewinds
 pub mod Search
 pub mod Steps
+pub mod Walks

@@ -1,12 +1,14 @@
--- Rewinding by what the code tests: g is the flag of the test of the reader and the reel, k that of a refused reader. Assumes nothing.
+-- Seeking by what the code tests: g is the flag of the test of the reader and the reel, k that of a refused reader; rewinding by what seeking
+-- answers. Assumes nothing.
 use Prim.Native.Nat.{ℕ, _≤_, _<_}
-use mathlib.Core.Path.{_≡_, sym, _∙_}
-use mathlib.Core.Bool.{Bool, true, false, not, _&&_}
+use mathlib.Core.Path.{_≡_, refl, sym, ap, _∙_}
+use mathlib.Core.Bool.{Bool, true, false, false≢true, not, cond, _&&_}
 use native.Mathlib.Omega.{arith}
 use lib.Dec.{ltb, leb}
 use lib.IntN.{ℤ}
 use borrow.Author.Tests.{ltb-true, leb-true, not-true, not-false}
-use Rattle.refusal.specs.declared.Refusal.the-variants.{BadState, Closed, TickGone}
+use Rattle.refusal.specs.declared.Refusal.{Refusal}
+use Rattle.refusal.specs.declared.Refusal.the-variants.{BadState, Closed}
 use Rattle.state.specs.State.{goodReader}
 use Rattle.state.specs.declared.Reader.{Reader}
 use Rattle.state.proofs.Every.{left-of, right-of}
@@ -15,37 +17,64 @@ use Rattle.back.specs.Back.{refused}
 use Rattle.reel.specs.Reel.{goodReel, rowsBefore, rowsOf}
 use Rattle.reel.specs.declared.Reel.{Reel}
 use Rattle.reel.proofs.Ring.{rows-length, rows-taken}
-use Rattle.rewinding.specs.Rewinding.{Newer, newer, gone, newerThan, stepOver, closedByRefusal, copyOf, stepBackTo, rewindTo}
+use Rattle.rewinding.specs.Rewinding.{Newer, newer, gone, newerThan, closedByRefusal, soughtOf, soughtIn, stepOver, copyOf, rewindTo}
+use Rattle.rewinding.specs.declared.Sought.{Sought}
+use Rattle.rewinding.specs.declared.Sought.the-variants as soughts
 use Rattle.rewinding.proofs.Search.{found-below}
 
+-- the counts of a good reel
+pub good-room : (r : Reader) (l : Reel) → (goodReader r && goodReel l) ≡ true → (l .counts .next < 512) × (l .counts .count ≤ 512)
+good-room r l good =
+    let p = l .counts .next in
+    let c = l .counts .count in
+    let e = right-of (goodReader r) (goodReel l) good in
+    (ltb-true p 512 (left-of (ltb p 512) (leb c 512) e), leb-true c 512 (right-of (ltb p 512) (leb c 512) e))
+
+-- ---- seeking
+
 module _ (r : Reader) (l : Reel) (t : ℤ) (g : Bool) (good : g ≡ (goodReader r && goodReel l)) where
-  pub bad : not g ≡ true → refused BadState ≡ rewindTo r l t
-  unfolding rewindTo
+  pub bad : not g ≡ true → soughts.Refused BadState ≡ soughtIn r l t
+  unfolding soughtIn
   bad n = rw (← good, not-true g n)
 
-  -- the counts of a good reel
   pub in-room : not g ≡ false → (l .counts .next < 512) × (l .counts .count ≤ 512)
-  in-room n =
-      let p = l .counts .next in
-      let c = l .counts .count in
-      let e = right-of (goodReader r) (goodReel l) (sym good ∙ not-false g n) in
-      (ltb-true p 512 (left-of (ltb p 512) (leb c 512) e), leb-true c 512 (right-of (ltb p 512) (leb c 512) e))
+  in-room n = good-room r l (sym good ∙ not-false g n)
 
   module _ (n : not g ≡ false) (k : Bool) (closed : k ≡ closedByRefusal (r .scalars .standing)) where
-    pub refused-reader : k ≡ true → refused Closed ≡ rewindTo r l t
-    unfolding rewindTo
+    pub refused-reader : k ≡ true → soughts.Refused Closed ≡ soughtIn r l t
+    unfolding soughtIn
     refused-reader q = rw (← good, not-false g n, ← closed, q)
 
     -- x is what the search finds
-    search-on : k ≡ false → (x : Newer) → x ≡ newerThan t (rowsOf l) → stepBackTo (rowsOf l) (boardOf r) x ≡ rewindTo r l t
-    unfolding rewindTo
-    search-on q x e = rw (← good, not-false g n, ← closed, q, e)
+    pub searched : k ≡ false → (x : Newer) → x ≡ newerThan t (rowsOf l) → soughtOf x ≡ soughtIn r l t
+    unfolding soughtIn
+    searched q x e = rw (← good, not-false g n, ← closed, q, e)
 
-    pub not-found : k ≡ false → gone ≡ newerThan t (rowsOf l) → refused TickGone ≡ rewindTo r l t
-    not-found q e = search-on q gone e
+-- ---- rewinding
 
-    pub found : k ≡ false → (m : ℕ) → newer m ≡ newerThan t (rowsOf l)
-        → copyOf (stepOver (rowsBefore l m (l .counts .next)) (boardOf r)) ≡ rewindTo r l t
-    found q m e =
-        let h : m ≤ l .counts .count = omega (arith, found-below t (rowsOf l) m e, rows-length l) in
-        rw (← rows-taken l m h) (search-on q (newer m) e)
+abbrev isNewer : Sought → Bool
+isNewer (soughts.Newer n) = true
+isNewer (soughts.Refused why) = false
+
+module _ (r : Reader) (l : Reel) (t : ℤ) where
+  -- it is found only of a good reader and reel
+  pub sought-newer : (n : ℕ) → soughtIn r l t ≡ soughts.Newer n → ((goodReader r && goodReel l) ≡ true) × (newerThan t (rowsOf l) ≡ newer n)
+  unfolding soughtIn
+  sought-newer n = by (goodReader r && goodReel l) (closedByRefusal (r .scalars .standing)) (newerThan t (rowsOf l))
+    where
+      by : (g k : Bool) (x : Newer) → cond g (cond k (soughts.Refused Closed) (soughtOf x)) (soughts.Refused BadState) ≡ soughts.Newer n
+          → (g ≡ true) × (x ≡ newer n)
+      by true true x e = absurd (false≢true (ap isNewer e))
+      by true false (newer m) e = let q : m ≡ n = cc in (refl, ap newer q)
+      by true false gone e = absurd (false≢true (ap isNewer e))
+      by false k x e = absurd (false≢true (ap isNewer e))
+
+  pub not-found : (why : Refusal) → soughtIn r l t ≡ soughts.Refused why → refused why ≡ rewindTo r l t
+  unfolding rewindTo
+  not-found why e = rw e
+
+  pub found : (n : ℕ) → soughtIn r l t ≡ soughts.Newer n → copyOf (stepOver (rowsBefore l n (l .counts .next)) (boardOf r)) ≡ rewindTo r l t
+  unfolding rewindTo
+  found n e =
+      let h : n ≤ l .counts .count = omega (arith, found-below t (rowsOf l) n (sym (sought-newer n e .1)), rows-length l) in
+      rw (e, rows-taken l n h)

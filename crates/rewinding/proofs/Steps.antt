@@ -1,7 +1,7 @@
--- Rows stepped over, one after the other; the whole rewinding by what the code tests. Assumes nothing.
+-- Rows stepped over, one after the other. Assumes nothing.
 use Prim.Native.Nat.{ℕ, zero, suc, _+_, _-_, _<_, _≤_}
 use mathlib.Core.Path.{_≡_, refl, ap, _∙_}
-use mathlib.Core.Bool.{true, false, not, cond}
+use mathlib.Core.Bool.{true, false, cond}
 use mathlib.Core.List.{List, []}
 use native.Mathlib.Omega.{arith}
 use lib.Dec.{ltb}
@@ -18,9 +18,10 @@ use Rattle.back.specs.declared.Board.{Board}
 use Rattle.back.specs.declared.Undo.{Undo}
 use Rattle.back.specs.declared.Undo.the-variants.{Start, End, New, Change, Old, Input, Nothing}
 use Rattle.taking.specs.Taking.{Taken, takenFrom}
-use Rattle.reel.specs.Reel.{ofInput, undoIn, placeBefore, rowAt, rowsBefore}
+use Rattle.reel.specs.Reel.{ofInput, undoIn, placeBefore, rowAt}
 use Rattle.reel.specs.declared.Reel.{Reel}
-use Rattle.rewinding.specs.Rewinding.{backRow, stepOver}
+use Rattle.rewinding.specs.Rewinding.{backRow}
+use Rattle.rewinding.specs.Walk.{walk}
 
 -- the ten numbers and the former ten of a row other than an input are not looked at
 any-ten : (u : Undo) (ten former : List ℤ) (k : BoardTick) (e : Entries)
@@ -49,21 +50,22 @@ module _ (l : Reel) where
 
   -- of the n rows before a place, k are stepped over: x is what is left after the next
   module _ (n k p : ℕ) (left : k < n) (b : Board) (x : Taken) (taken : x ≡ offAt l (placeBefore p) b) where
-    onward : cond (x .fits) (stepOver (rowsBefore l (n - (k + 1)) (placeBefore p)) (x .board)) x ≡ stepOver (rowsBefore l (n - k) p) b
-    unfolding stepOver rowsBefore
+    onward : cond (x .fits) (walk l (n - (k + 1)) (placeBefore p) (k + 1) (x .board)) (record { taken = x; over = k; place = p }) ≡ walk l (n - k) p k b
+    unfolding walk
     onward =
-        let less : n - k ≡ suc (n - (k + 1)) = omega arith in
-        rw less
-        (ap (λ (t : Taken). cond (t .fits) (stepOver (rowsBefore l (n - (k + 1)) (placeBefore p)) (t .board)) t) (taken ∙ off-row (placeBefore p) b))
+        let less : n - k ≡ suc (n - suc k) = omega arith in
+        let more : k + 1 ≡ suc k = omega arith in
+        rw (less, more)
+        (ap (λ (t : Taken). cond (t .fits) (walk l (n - suc k) (placeBefore p) (suc k) (t .board)) (record { taken = t; over = k; place = p })) (taken ∙ off-row (placeBefore p) b))
 
-    pub fitted : x .fits ≡ true → stepOver (rowsBefore l (n - (k + 1)) (placeBefore p)) (x .board) ≡ stepOver (rowsBefore l (n - k) p) b
-    fitted e = picks-first (x .fits) _ x e ∙ onward
+    pub fitted : x .fits ≡ true → walk l (n - (k + 1)) (placeBefore p) (k + 1) (x .board) ≡ walk l (n - k) p k b
+    fitted e = picks-first (x .fits) _ _ e ∙ onward
 
-    pub unfitted : x .fits ≡ false → record { fits = false; board = x .board } ≡ stepOver (rowsBefore l (n - k) p) b
+    pub unfitted : x .fits ≡ false → record { taken = record { fits = false; board = x .board }; over = k; place = p } ≡ walk l (n - k) p k b
     unfitted e = rw e at onward
 
-  pub none-left : (n k p : ℕ) → n ≤ k → (b : Board) → record { fits = true; board = b } ≡ stepOver (rowsBefore l (n - k) p) b
-  unfolding stepOver rowsBefore
+  pub none-left : (n k p : ℕ) → n ≤ k → (b : Board) → record { taken = record { fits = true; board = b }; over = k; place = p } ≡ walk l (n - k) p k b
+  unfolding walk
   none-left n k p h b = let e : n - k ≡ 0 = omega arith in rw e
 
 -- ---- what the code reads at the place before p: q is that place

@@ -1,2 +1,3 @@
 pub mod Rewinding
+pub mod Walk
 pub mod steps

@@ -19,6 +19,8 @@ use Rattle.back.specs.declared.Board.{Board}
 use Rattle.taking.specs.Taking.{Taken, takenFrom}
 use Rattle.reel.specs.Reel.{Row, goodReel, rowsOf}
 use Rattle.reel.specs.declared.Reel.{Reel}
+use Rattle.rewinding.specs.declared.Sought.{Sought}
+use Rattle.rewinding.specs.declared.Sought.the-variants as soughts
 use Rattle.rewinding.specs.declared.RewindAnswer.the-variants as answers
 use Rattle.rewinding.specs.declared.Rewound.{Rewound}
 
@@ -47,6 +49,22 @@ unfoldable pub newerThan : ℤ → List Row → Newer
 newerThan t [] = gone
 newerThan t (x ∷ xs) = cond (isStart t (x .undo)) (newer 0) (oneNewer (newerThan t xs))
 
+abbrev pub closedByRefusal : Standing → Bool
+closedByRefusal standings.Open = false
+closedByRefusal standings.Finished = false
+closedByRefusal standings.Refused = true
+
+abbrev pub soughtOf : Newer → Sought
+soughtOf (newer n) = soughts.Newer n
+soughtOf gone = soughts.Refused TickGone
+
+-- 17 (reader, reel), 18, 20
+unfoldable pub soughtIn : Reader → Reel → ℤ → Sought
+soughtIn r l t =
+    cond (goodReader r && goodReel l)
+    (cond (closedByRefusal (r .scalars .standing)) (soughts.Refused Closed) (soughtOf (newerThan t (rowsOf l))))
+    (soughts.Refused BadState)
+
 -- ---- stepping over rows
 
 abbrev pub backRow : Row → Board → Back
@@ -59,26 +77,18 @@ stepOver (x ∷ xs) b = let t = takenFrom b (backRow x b) in cond (t .fits) (ste
 
 -- ---- rewinding
 
-abbrev pub closedByRefusal : Standing → Bool
-closedByRefusal standings.Open = false
-closedByRefusal standings.Finished = false
-closedByRefusal standings.Refused = true
-
--- the copy, if every row fitted
+-- the copy, if every row fitted, else 19
 abbrev pub copyOf : Taken → Back
 copyOf t = cond (t .fits) (was (t .board)) (refused NotLast)
 
 -- of the rows that are newer than TickStart; TickStart itself is not stepped over
-abbrev pub stepBackTo : List Row → Board → Newer → Back
-stepBackTo rows b (newer n) = copyOf (stepOver (take n rows) b)
-stepBackTo rows b gone = refused TickGone
+abbrev pub stepBackTo : List Row → Board → Sought → Back
+stepBackTo rows b (soughts.Newer n) = copyOf (stepOver (take n rows) b)
+stepBackTo rows b (soughts.Refused r) = refused r
 
 -- 17 (reader, reel), 18, 20, 19
 unfoldable pub rewindTo : Reader → Reel → ℤ → Back
-rewindTo r l t =
-    cond (goodReader r && goodReel l)
-    (cond (closedByRefusal (r .scalars .standing)) (refused Closed) (stepBackTo (rowsOf l) (boardOf r) (newerThan t (rowsOf l))))
-    (refused BadState)
+rewindTo r l t = stepBackTo (rowsOf l) (boardOf r) (soughtIn r l t)
 
 -- what the call hands back: in a refusal there is no copy, and the board is blank
 abbrev pub blankBoard : Board

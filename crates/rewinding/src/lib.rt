@@ -1,16 +1,17 @@
 // Rewinding to a tick: a copy of the board, just after the newest TickStart of that tick on the reel.
 ghost use mathlib.Core.Path.{_≡_};
-ghost use mathlib.Core.Bool.{true};
+ghost use mathlib.Core.Bool.{true, _&&_};
 ghost use mathlib.Core.List.{List};
 ghost use Prim.Native.Nat.{_<_, _≤_};
+ghost use lib.Dec.{ltb};
 ghost use lib.IntN.{ℤ};
 ghost use Rattle.state.specs.State.{tenOf, entriesWith};
 ghost use Rattle.back.specs.Board.{board};
 ghost use Rattle.back.specs.Back.{refused};
-ghost use Rattle.taking.specs.Taking.{takenIs};
 ghost use Rattle.reel.specs.Reel.{undoIn, reelOf, rowsBefore, rowsOf};
-ghost use Rattle.rewinding.specs.Rewinding.{isStart, newerThan, stepOver, closedByRefusal, copyOf, rewindTo, rewoundOf};
+ghost use Rattle.rewinding.specs.Rewinding.{isStart, newerThan, closedByRefusal, soughtIn, stepOver, copyOf, rewindTo, blankBoard, rewoundOf};
 ghost use Rattle.rewinding.specs.steps.Found.{foundIs};
+ghost use Rattle.rewinding.specs.Walk.{walk, rowsFrom, walkedIs};
 use back::Board;
 use back::BoardTick;
 use reel::Counts;
@@ -36,6 +37,19 @@ pub struct Rewound {
 enum Found {
     Newer(usize),
     Gone,
+}
+
+// The same, or the refusal.
+pub enum Sought {
+    Newer(usize),
+    Refused(Refusal),
+}
+
+// What stepping over rows leaves, how many fitted, and the place before which the others stand.
+pub struct Over {
+    pub off: Off,
+    pub over: usize,
+    pub place: usize,
 }
 
 // The newest TickStart of a tick.
@@ -65,8 +79,54 @@ fn is_start(rows: &[i32; 5120], p: usize, tick: i32) -> bool
     good::both(compare::same_number(kind, 1), compare::same_number(t, tick))
 }
 
+// The same for any place: where there is none of the 512 it is not.
+pub fn start_at(rows: &[i32; 5120], p: usize, tick: i32) -> bool
+    ensures { λ r. ⌜ r ≡ (ltb p 512 && isStart tick (undoIn (tenOf (now (rows .entry)) p))) ⌝ }
+{
+    if 512 <= p {
+        return false;
+    }
+    is_start(rows, p, tick)
+}
+
+fn closed_by_refusal(standing: Standing) -> bool
+    ensures { λ r. ⌜ r ≡ closedByRefusal standing ⌝ }
+{
+    match standing {
+        Standing::Open => false,
+        Standing::Finished => false,
+        Standing::Refused => true,
+    }
+}
+
+// The newest TickStart of a tick on a reel beside a reader: how many rows are newer. Refused 17 (reader, reel), 18 (a reader closed by a
+// refusal), 20 (no such TickStart), in this order.
+pub fn seek(reader: Reader, counts: Counts, rows: &[i32; 5120], tick: i32) -> Sought
+    ensures { λ r. ⌜ ((inputs formers : List ℤ) → r ≡ soughtIn reader (reelOf counts (now (rows .entry)) inputs formers) tick) ⌝ }
+{
+    let scalars = reader.scalars;
+    let entries = reader.entries;
+    if !good::both(
+        good::both(
+            good_reader::good_scalars(scalars),
+            good::good_entries(entries),
+        ),
+        reel::good_counts(counts),
+    ) {
+        return Sought::Refused(Refusal::BadState);
+    }
+    let standing = scalars.standing;
+    if closed_by_refusal(standing) {
+        return Sought::Refused(Refusal::Closed);
+    }
+    match find_start(counts, rows, tick) {
+        Found::Newer(n) => Sought::Newer(n),
+        Found::Gone => Sought::Refused(Refusal::TickGone),
+    }
+}
+
 // Steps over the n rows before a place, while they fit.
-fn step_over(
+fn walk_over(
     tick: BoardTick,
     marks: &mut [u8; 128],
     xs: &mut [i32; 128],
@@ -78,11 +138,11 @@ fn step_over(
     rows: &[i32; 5120],
     tens: &[i32; 5120],
     formers: &[i32; 5120],
-) -> Off
+) -> Over
     requires { ⌜ next < 512 ⌝ }
     ensures { λ r. ⌜
-        ((counts : Counts) → takenIs r (entriesWith (now (marks .exit)) (now (xs .exit)) (now (ys .exit)) (now (held .exit)) (now (inputs .exit)))
-        ≡ stepOver (rowsBefore (reelOf counts (now (rows .entry)) (now (tens .entry)) (now (formers .entry))) n next)
+        ((counts : Counts) → walkedIs r (entriesWith (now (marks .exit)) (now (xs .exit)) (now (ys .exit)) (now (held .exit)) (now (inputs .exit)))
+        ≡ walk (reelOf counts (now (rows .entry)) (now (tens .entry)) (now (formers .entry))) n next 0
         (board tick (entriesWith (now (marks .entry)) (now (xs .entry)) (now (ys .entry)) (now (held .entry)) (now (inputs .entry)))))
         ⌝ }
 {
@@ -90,24 +150,91 @@ fn step_over(
     let mut p = next;
     let mut k: usize = 0;
     while k < n {
-        p = reel::place_before(p);
-        let undo = reel::undo_in(keeping::ten_at(rows, p));
-        let ten = keeping::ten_at(tens, p);
-        let old = keeping::ten_at(formers, p);
+        let q = reel::place_before(p);
+        let undo = reel::undo_in(keeping::ten_at(rows, q));
+        let ten = keeping::ten_at(tens, q);
+        let old = keeping::ten_at(formers, q);
         let off = taking::take_off(t, marks, xs, ys, held, inputs, undo, ten, old);
         let left = off.tick;
         if !off.fits {
-            return Off {
-                fits: false,
-                tick: left,
+            return Over {
+                off: Off {
+                    fits: false,
+                    tick: left,
+                },
+                over: k,
+                place: p,
             };
         }
         t = left;
+        p = q;
         k += 1;
     }
-    Off {
-        fits: true,
-        tick: t,
+    Over {
+        off: Off {
+            fits: true,
+            tick: t,
+        },
+        over: k,
+        place: p,
+    }
+}
+
+// The same for any place: before one that is none of the 512 there are no rows. Whether the board is a good one (17) is not tested.
+pub fn step_over(
+    tick: BoardTick,
+    marks: &mut [u8; 128],
+    xs: &mut [i32; 128],
+    ys: &mut [i32; 128],
+    held: &mut [u8; 128],
+    inputs: &mut [i32; 1280],
+    next: usize,
+    n: usize,
+    rows: &[i32; 5120],
+    tens: &[i32; 5120],
+    formers: &[i32; 5120],
+) -> Over
+    ensures { λ r. ⌜
+        ((counts : Counts) → walkedIs r (entriesWith (now (marks .exit)) (now (xs .exit)) (now (ys .exit)) (now (held .exit)) (now (inputs .exit)))
+        ≡ walk (reelOf counts (now (rows .entry)) (now (tens .entry)) (now (formers .entry))) (rowsFrom next n) next 0
+        (board tick (entriesWith (now (marks .entry)) (now (xs .entry)) (now (ys .entry)) (now (held .entry)) (now (inputs .entry)))))
+        ⌝ }
+{
+    if 512 <= next {
+        return Over {
+            off: Off { fits: true, tick },
+            over: 0,
+            place: next,
+        };
+    }
+    walk_over(
+        tick,
+        marks,
+        xs,
+        ys,
+        held,
+        inputs,
+        next,
+        n,
+        rows,
+        tens,
+        formers,
+    )
+}
+
+// No tick, no players and no inputs: what stands for a copy where there is none.
+pub fn blank_board() -> Board
+    ensures { λ r. ⌜ r ≡ blankBoard ⌝ }
+{
+    Board {
+        tick: BoardTick::NoTick,
+        entries: Entries {
+            marks: [0; 128],
+            xs: [0; 128],
+            ys: [0; 128],
+            held: [0; 128],
+            inputs: [0; 1280],
+        },
     }
 }
 
@@ -117,16 +244,7 @@ fn refuse(why: Refusal) -> Rewound
 {
     Rewound {
         answer: RewindAnswer::Refused(why),
-        board: Board {
-            tick: BoardTick::NoTick,
-            entries: Entries {
-                marks: [0; 128],
-                xs: [0; 128],
-                ys: [0; 128],
-                held: [0; 128],
-                inputs: [0; 1280],
-            },
-        },
+        board: blank_board(),
     }
 }
 
@@ -149,7 +267,7 @@ fn over_newest(
     let mut ys = entries.ys;
     let mut held = entries.held;
     let mut inputs = entries.inputs;
-    let off = step_over(
+    let walked = walk_over(
         tick,
         &mut marks,
         &mut xs,
@@ -162,6 +280,7 @@ fn over_newest(
         tens,
         formers,
     );
+    let off = walked.off;
     if !off.fits {
         return refuse(Refusal::NotLast);
     }
@@ -181,16 +300,6 @@ fn over_newest(
     }
 }
 
-fn closed_by_refusal(standing: Standing) -> bool
-    ensures { λ r. ⌜ r ≡ closedByRefusal standing ⌝ }
-{
-    match standing {
-        Standing::Open => false,
-        Standing::Finished => false,
-        Standing::Refused => true,
-    }
-}
-
 // Rewinds a copy of a reader's board to just after the newest TickStart of a tick on the reel, whose arrays are lent. Refused 17 (reader, reel),
 // 18 (a reader closed by a refusal), 20 (no such TickStart), 19 (an event newer than it doesn't fit), in this order.
 pub fn rewind_lent(
@@ -203,24 +312,9 @@ pub fn rewind_lent(
 ) -> Rewound
     ensures { λ r. ⌜ r ≡ rewoundOf (rewindTo reader (reelOf counts (now (rows .entry)) (now (inputs .entry)) (now (formers .entry))) tick) ⌝ }
 {
-    let scalars = reader.scalars;
-    let entries = reader.entries;
-    if !good::both(
-        good::both(
-            good_reader::good_scalars(scalars),
-            good::good_entries(entries),
-        ),
-        reel::good_counts(counts),
-    ) {
-        return refuse(Refusal::BadState);
-    }
-    let standing = scalars.standing;
-    if closed_by_refusal(standing) {
-        return refuse(Refusal::Closed);
-    }
-    match find_start(counts, rows, tick) {
-        Found::Newer(n) => over_newest(back::board_of(reader), n, counts, rows, inputs, formers),
-        Found::Gone => refuse(Refusal::TickGone),
+    match seek(reader, counts, rows, tick) {
+        Sought::Newer(n) => over_newest(back::board_of(reader), n, counts, rows, inputs, formers),
+        Sought::Refused(why) => refuse(why),
     }
 }
 

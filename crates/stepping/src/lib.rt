@@ -17,7 +17,8 @@ use state::Entries;
 use state::Event;
 use taking::Off;
 
-fn good_tick(tick: BoardTick) -> bool
+// Whether a board's tick is not refused 17.
+pub fn good_tick(tick: BoardTick) -> bool
     ensures { λ r. ⌜ r ≡ goodTick tick ⌝ }
 {
     let BoardTick::In(t) = tick else {

@@ -1,24 +1,37 @@
 -- `rewinding::over_newest` meets its contract. Assumes nothing.
 use borrow.Author.Needs.{needs}
-use mathlib.Core.Path.{ap, _∙_}
+use mathlib.Core.Path.{_≡_, ap, _∙_}
 use borrow.Author.Tests.{not-true, not-false}
+use Rattle.state.specs.State.{entriesWith}
 use Rattle.state.proofs.Numbers.{picks-first, picks-second}
-use Rattle.rewinding.specs.Rewinding.{copyOf, rewoundOf}
+use Rattle.taking.specs.Taking.{takenIs}
+use Rattle.reel.specs.Reel.{reelOf, rowsBefore}
+use Rattle.rewinding.specs.Rewinding.{stepOver, copyOf, rewoundOf}
+use Rattle.rewinding.specs.Walk.{Walked}
+use Rattle.rewinding.proofs.Walks.{walk-over}
 use Rattle.rewinding.proofs.over_newest.Statement.{statement}
 use Rattle.rewinding.proofs.over_newest.Tie as tie
 
+-- what is left of the board is what stepping over the rows does
+walked : (c : tie.After-walk-over) → let a = c .before .before .before .before .before .before .before .before .before .before .before .before .args in
+    let o = c .walk-over in
+    takenIs (o .result .off) (entriesWith (o .last .1 .0) (o .last .1 .1 .0) (o .last .1 .1 .1 .0) (o .last .1 .1 .1 .1 .0) (o .last .1 .1 .1 .1 .1 .0))
+    ≡ stepOver (rowsBefore (reelOf (a .counts) (a .rows .now) (a .tens .now) (a .formers .now)) (a .n) (a .counts .next)) (a .board)
+walked c =
+    let a = c .before .before .before .before .before .before .before .before .before .before .before .before .args in
+    ap (λ (w : Walked). w .taken) (c .walk-over .ensures (a .counts))
+    ∙ walk-over (reelOf (a .counts) (a .rows .now) (a .tens .now) (a .formers .now)) (a .n) (a .counts .next) 0 (a .board)
+
 returns : tie.Need-returns
 returns c =
-    let a = c .before .before .before .before .before .before .before .before .before .before .before .before .before .before .before .args in
-    let o = c .before .before .before .step-over in
+    let o = c .before .before .before .before in
     c .refuse .ensures
-    ∙ ap rewoundOf (picks-second (o .result .fits) _ _ (not-true _ (c .before .if1 .taken)) ∙ ap copyOf (o .ensures (a .counts)))
+    ∙ ap rewoundOf (picks-second (o .walk-over .result .off .fits) _ _ (not-true _ (c .before .if1 .taken)) ∙ ap copyOf (walked o))
 
 returns-2 : tie.Need-returns-2
 returns-2 c =
-    let a = c .before .before .before .before .before .before .before .before .before .before .before .before .before .before .args in
-    let o = c .before .before .step-over in
-    ap rewoundOf (picks-first (o .result .fits) _ _ (not-false _ (c .if1 .left)) ∙ ap copyOf (o .ensures (a .counts)))
+    let o = c .before .before .before in
+    ap rewoundOf (picks-first (o .walk-over .result .off .fits) _ _ (not-false _ (c .if1 .left)) ∙ ap copyOf (walked o))
 
 pub over-newest-spec : {M : Type 1} → statement M
 over-newest-spec = tie.close (tie.spec (λ c κs. search needs) (λ c κs. search needs) returns returns-2)
