@@ -1,5 +1,5 @@
-"""teehistorian.py PROGRAM FILE [TICK]: takes a .teehistorian file apart and feeds its body to PROGRAM, which is replay, ladder or rewind. Only
-rewind has a TICK, which it is started with.
+"""teehistorian.py PROGRAM FILE [TICK [STEP]]: takes a .teehistorian file apart and feeds its body to PROGRAM, which is replay, ladder or rewind.
+Only rewind has a TICK and may have a STEP, which it is started with.
 
 The file is the magic of 16 bytes, a JSON header that ends with a byte 00, and the body; unpack.py unpacks it where it is packed. The
 header's "version", a string, says which version of the format the body has. Nothing else of the header is looked at.
@@ -23,7 +23,7 @@ LAST = [(b"finish", 0), (b"ended", 0), (b"refused", 3), (b"too long", 4)]
 CUT = (b"refused 3\n", b"refused 18\n")
 NO_LAST_LINE = 1
 WITH_TICK = "rewind"
-LATEST_TICK = 2147483647
+LARGEST = 2147483647
 
 
 def check_magic(start):
@@ -165,23 +165,23 @@ def run(words, fd):
         program.wait()
 
 
-def is_tick(word):
-    return re.fullmatch(r"[0-9]{1,64}", word, re.ASCII) is not None and int(word) <= LATEST_TICK
+def is_number(word):
+    return re.fullmatch(r"[0-9]{1,64}", word, re.ASCII) is not None and int(word) <= LARGEST
 
 
 def are_right(name, words):
-    """Whether the words behind the program's are a file and, for rewind, a tick."""
+    """Whether the words behind the program's are a file and, for rewind, a tick and perhaps a step."""
     if not words or words[0] in ("-h", "--help"):
         return False
     if name == WITH_TICK:
-        return len(words) == 2 and is_tick(words[1])
+        return len(words) in (2, 3) and all(map(is_number, words[1:]))
     return len(words) == 1
 
 
 def main(words):
     name = os.path.basename(words[0]) if words else "PROGRAM"
     if not are_right(name, words[1:]):
-        tick = f" TICK    (a number up to {LATEST_TICK})" if name == WITH_TICK else ""
+        tick = f" TICK [STEP]    (numbers up to {LARGEST})" if name == WITH_TICK else ""
         print(f"usage: tools/{name} FILE{tick}    (- for standard input)", file=sys.stderr)
         return 2
     try:

@@ -3,17 +3,21 @@ use Prim.Native.Nat.{ℕ, _+_, _*_, _≤_}
 use mathlib.Core.List.{List, [], _∷_, _++_}
 use native.Mathlib.Omega.{arith}
 use lib.ListN.{length, length-append}
+use lib.IntN.{pos}
+use Rattle.refusal.specs.Numbers.{numberOf}
 use Rattle.packer.proofs.Joined.{first-fits, next-fits, two-puts}
 use Rattle.state.specs.State.{present, holds}
 use Rattle.state.specs.declared.Entries.{Entries}
 use Rattle.back.specs.declared.BoardTick.{BoardTick}
 use Rattle.back.specs.declared.BoardTick.the-variants.{In, NoTick}
 use Rattle.back.specs.declared.Board.{Board}
-use Rattle.lines.specs.Lines.{text}
+use Rattle.lines.specs.Lines.{longest}
 use Rattle.lines.specs.steps.Puts.{PutsText}
 use Rattle.lines.proofs.Texts.{end-le}
 use Rattle.row_lines.proofs.Puts.{put-size}
-use Rattle.board_lines.specs.BoardLines.{tickLine, playerLine, inputLine, linesBelow, boardText, longestBoard}
+use Rattle.going.specs.declared.GoAnswer.{GoAnswer}
+use Rattle.going.specs.declared.GoAnswer.the-variants as goes
+use Rattle.board_lines.specs.BoardLines.{tickLine, playerLine, inputLine, linesBelow, boardText, goneLine, longestBoard}
 use Rattle.board_lines.proofs.Below.{player-le, input-le, lines-le}
 
 abbrev pub players : Entries → List ℕ
@@ -33,7 +37,7 @@ inputs-le : (e : Entries) → length (inputs e) ≤ 17664
 inputs-le e = lines-le 138 (holds e) (inputLine e) (input-le e) 128
 
 -- the text of a board, and a last line's room behind it
-board-le : (b : Board) → length (boardText b) + 138 ≤ longestBoard
+board-le : (b : Board) → length (boardText b) + longest ≤ longestBoard
 unfolding boardText
 board-le b =
     rw (length-append, length-append)
@@ -64,14 +68,19 @@ module _ (t : BoardTick) (e : Entries) (xs : List ℕ) (at : ℕ) (room : at + l
       board-put c us r =
           two-puts xs at (tickLine t) (players e ++ inputs e) whole a ys p c us (two-puts ys a (players e) (inputs e) behind b zs q c us r)
 
--- a board and `ended`
-module _ (b : Board) (xs : List ℕ) (at : ℕ) (room : at + longestBoard ≤ length xs) where
-  ended-whole : at + length (boardText b ++ text "ended\n") ≤ length xs
-  ended-whole = omega (arith, length-append (boardText b) (text "ended\n"), board-le b)
+-- a board and a last line
+end-short : (w : GoAnswer) → length (goneLine w) ≤ longest
+end-short goes.Ended = omega arith
+end-short goes.Going = omega arith
+end-short (goes.Refused r) = omega (arith, end-le (pos (numberOf r) ∷ []))
+
+module _ (w : GoAnswer) (b : Board) (xs : List ℕ) (at : ℕ) (room : at + longestBoard ≤ length xs) where
+  gone-whole : at + length (boardText b ++ goneLine w) ≤ length xs
+  gone-whole = omega (arith, length-append (boardText b) (goneLine w), board-le b, end-short w)
 
   module _ (a : ℕ) (ys : List ℕ) (p : PutsText xs at (boardText b) a ys) where
-    pub ended-fits : a + length (text "ended\n") ≤ length ys
-    ended-fits = next-fits xs at (boardText b) (text "ended\n") ended-whole a ys p
+    pub end-fits : a + longest ≤ length ys
+    end-fits = omega (arith, p .0, board-le b, put-size xs at (boardText b) a ys (first-fits xs at (boardText b) (goneLine w) gone-whole) p)
 
-    pub ended-put : (c : ℕ) (us : List ℕ) → PutsText ys a (text "ended\n") c us → PutsText xs at (boardText b ++ text "ended\n") c us
-    ended-put = two-puts xs at (boardText b) (text "ended\n") ended-whole a ys p
+    pub gone-put : (c : ℕ) (us : List ℕ) → PutsText ys a (goneLine w) c us → PutsText xs at (boardText b ++ goneLine w) c us
+    gone-put = two-puts xs at (boardText b) (goneLine w) gone-whole a ys p

@@ -12,6 +12,8 @@ use Rattle.lines.specs.Lines.{text, plainLine, inputWord, lastLine}
 use Rattle.lines.specs.declared.Ending.the-variants as endings
 use Rattle.rewinding.specs.declared.RewindAnswer.{RewindAnswer}
 use Rattle.rewinding.specs.declared.RewindAnswer.the-variants as answers
+use Rattle.going.specs.declared.GoAnswer.{GoAnswer}
+use Rattle.going.specs.declared.GoAnswer.the-variants as goes
 
 abbrev pub boardWord : List ℕ
 boardWord = text "board"
@@ -47,6 +49,16 @@ boardText b =
 abbrev pub rewoundText : RewindAnswer → Board → List ℕ
 rewoundText answers.Ended b = boardText b ++ text "ended\n"
 rewoundText (answers.Refused r) b = lastLine (endings.Refused r)
+
+-- the line of a call that goes on: `going`, `ended` or `refused n`
+abbrev pub goneLine : GoAnswer → List ℕ
+goneLine goes.Ended = text "ended\n"
+goneLine goes.Going = text "going\n"
+goneLine (goes.Refused r) = lastLine (endings.Refused r)
+
+-- the copy, and that line
+abbrev pub goneText : GoAnswer → Board → List ℕ
+goneText a b = boardText b ++ goneLine a
 
 -- the longest text: 18 bytes, 128 players of 43 and inputs of 138 bytes, and room for the longest line
 abbrev pub longestBoard : ℕ

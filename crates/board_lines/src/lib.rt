@@ -7,11 +7,23 @@ ghost use lib.Dec.{eqb, leb};
 ghost use lib.IntN.{ℤ, pos};
 ghost use lib.ListN.{length};
 ghost use Rattle.state.specs.State.{present, holds, tenOf, entriesWith};
-ghost use Rattle.lines.specs.Lines.{plainLine, inputWord, textAnswer, textTarget};
+ghost use Rattle.lines.specs.Lines.{plainLine, inputWord, longest, textAnswer, textTarget};
 ghost use Rattle.lines.specs.steps.Puts.{PutsText};
-ghost use Rattle.board_lines.specs.BoardLines.{playerWord, tickLine, playerLine, inputLine, linesBelow, boardText, rewoundText, longestBoard};
+ghost use Rattle.board_lines.specs.BoardLines.{
+  playerWord,
+  tickLine,
+  playerLine,
+  inputLine,
+  linesBelow,
+  boardText,
+  rewoundText,
+  goneLine,
+  goneText,
+  longestBoard,
+};
 use back::Board;
 use back::BoardTick;
+use going::GoAnswer;
 use lines::Ending;
 use refusal::Refusal;
 use rewinding::RewindAnswer;
@@ -109,19 +121,37 @@ fn put_board(board: Board, out: &mut [u8], at: usize) -> usize
     put_inputs(&held, &inputs, out, past_players)
 }
 
+// The last line: whether the copy stands at its tick, is still going there, or why not.
+fn put_end(answer: GoAnswer, out: &mut [u8], at: usize) -> usize
+    requires { ⌜ at + longest ≤ length (now out) ⌝ }
+    ensures { λ r. ⌜ PutsText (now (out .entry)) at (goneLine answer) r (now (out .exit)) ⌝ }
+{
+    match answer {
+        GoAnswer::Ended => row_lines::past_or(text_writer::write_raw(b"ended\n", out, at), at),
+        GoAnswer::Going => row_lines::past_or(text_writer::write_raw(b"going\n", out, at), at),
+        GoAnswer::Refused(why) => row_lines::past_or(
+            lines::write_last(Ending::Refused(why), out, at),
+            at,
+        ),
+    }
+}
+
+// The copy and the last line.
+fn put_gone(answer: GoAnswer, board: Board, out: &mut [u8], at: usize) -> usize
+    requires { ⌜ at + longestBoard ≤ length (now out) ⌝ }
+    ensures { λ r. ⌜ PutsText (now (out .entry)) at (goneText answer board) r (now (out .exit)) ⌝ }
+{
+    let next = put_board(board, out, at);
+    put_end(answer, out, next)
+}
+
 fn put_rewound(answer: RewindAnswer, board: Board, out: &mut [u8], at: usize) -> usize
     requires { ⌜ at + longestBoard ≤ length (now out) ⌝ }
     ensures { λ r. ⌜ PutsText (now (out .entry)) at (rewoundText answer board) r (now (out .exit)) ⌝ }
 {
     match answer {
-        RewindAnswer::Ended => {
-            let next = put_board(board, out, at);
-            row_lines::past_or(text_writer::write_raw(b"ended\n", out, next), next)
-        }
-        RewindAnswer::Refused(why) => row_lines::past_or(
-            lines::write_last(Ending::Refused(why), out, at),
-            at,
-        ),
+        RewindAnswer::Ended => put_gone(GoAnswer::Ended, board, out, at),
+        RewindAnswer::Refused(why) => put_end(GoAnswer::Refused(why), out, at),
     }
 }
 
@@ -144,6 +174,17 @@ pub fn write_rewound(rewound: Rewound, out: &mut [u8], at: usize) -> Wrote
     let board = rewound.board;
     if has_longest(out.len(), at) {
         return Wrote::Past(put_rewound(answer, board, out, at));
+    }
+    Wrote::Refused(Refusal::ShortTarget)
+}
+
+// The text of a call that goes on with a rewind: its copy, in a refusal too, and how it stands. Refused 9 as above.
+pub fn write_gone(answer: GoAnswer, board: Board, out: &mut [u8], at: usize) -> Wrote
+    ensures answer { λ r. ⌜ r ≡ textAnswer longestBoard (now (out .entry)) at (goneText answer board) ⌝ }
+    ensures target { λ r. ⌜ now (out .exit) ≡ textTarget longestBoard (now (out .entry)) at (goneText answer board) ⌝ }
+{
+    if has_longest(out.len(), at) {
+        return Wrote::Past(put_gone(answer, board, out, at));
     }
     Wrote::Refused(Refusal::ShortTarget)
 }

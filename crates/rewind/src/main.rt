@@ -1,9 +1,15 @@
 // The rewind program: rewind TICK [STEP [EVENTS]]. Standard input is a version byte, 01 or 02, and a body. It is read to its end, or until
-// EVENTS events have come, with a reel beside; then the board is rewound to TICK and printed. STEP is 0 or none.
+// EVENTS events have come, with a reel beside; then the board is rewound to TICK and printed. With a STEP above 0 the rewind goes STEP events
+// a call, and the copy is printed after each.
 ghost use mathlib.Core.Path.{_≡_};
 ghost use Prim.Native.Nat.{_<_};
 ghost use lib.ListN.{length};
+use back::Board;
 use feed::Hand;
+use going::GoAnswer;
+use going::LentGo;
+use going::LentStart;
+use going::StartAnswer;
 use kinds::Version;
 use kinds::VersionOf;
 use libc::STDERR_FILENO;
@@ -15,13 +21,16 @@ use packer::Part;
 use reel::Counts;
 use refusal::Refusal;
 use rewinding::Rewound;
+use state::Entries;
 use state::Reader;
 use varint::Wrote;
 
-// What the arguments say: whether they are good, the tick, and how many events are read at most.
+// What the arguments say: whether they are good, the tick, how many events the rewind goes a call (0: all at once), and how many are read at
+// most.
 struct Wanted {
     good: bool,
     tick: i32,
+    step: usize,
     most: usize,
 }
 
@@ -42,13 +51,14 @@ fn say(text: &[u8]) {
     io::write_all(STDERR_FILENO, text);
 }
 
-// The first n bytes.
-fn print(text: &[u8], n: usize) {
+// The first n bytes, and whether they were written.
+fn print(text: &[u8], n: usize) -> bool {
     let start = Part { at: 0, len: n };
     if io::write_all(STDOUT_FILENO, packer::show(text, start)) {
-        return;
+        return true;
     }
     say(b"rewind: a write failed\n");
+    false
 }
 
 fn argument(i: usize) -> Argument {
@@ -64,16 +74,18 @@ fn bad() -> Wanted {
     Wanted {
         good: false,
         tick: 0,
+        step: 0,
         most: 0,
     }
 }
 
 // The most events, of an argument that may be missing.
-fn with_events(tick: i32, count: usize) -> Wanted {
+fn with_events(tick: i32, step: usize, count: usize) -> Wanted {
     if count < 4 {
         return Wanted {
             good: true,
             tick,
+            step,
             most: 18446744073709551615,
         };
     }
@@ -81,20 +93,21 @@ fn with_events(tick: i32, count: usize) -> Wanted {
         Argument::Number(n) => Wanted {
             good: true,
             tick,
+            step,
             most: num::bits(n) as usize,
         },
         Argument::Bad => bad(),
     }
 }
 
-// STEP is 0, where there is one.
-fn good_step(count: usize) -> bool {
+// The step, of an argument that may be missing.
+fn with_step(tick: i32, count: usize) -> Wanted {
     if count < 3 {
-        return true;
+        return with_events(tick, 0, count);
     }
     match argument(2) {
-        Argument::Number(n) => n == 0,
-        Argument::Bad => false,
+        Argument::Number(n) => with_events(tick, num::bits(n) as usize, count),
+        Argument::Bad => bad(),
     }
 }
 
@@ -103,11 +116,8 @@ fn arguments() -> Wanted {
     if 4 < count {
         return bad();
     }
-    if !good_step(count) {
-        return bad();
-    }
     match argument(1) {
-        Argument::Number(tick) => with_events(tick, count),
+        Argument::Number(tick) => with_step(tick, count),
         Argument::Bad => bad(),
     }
 }
@@ -168,6 +178,178 @@ fn print_rewound(rewound: Rewound) {
     print(&text, n);
 }
 
+// The text of a call, from what it answered and the entries that it left, and whether it was written.
+fn print_gone(
+    went: LentGo,
+    marks: [u8; 128],
+    xs: [i32; 128],
+    ys: [i32; 128],
+    held: [u8; 128],
+    inputs: [i32; 1280],
+) -> bool {
+    let answer = went.answer;
+    let tick = went.tick;
+    let board = Board {
+        tick,
+        entries: Entries {
+            marks,
+            xs,
+            ys,
+            held,
+            inputs,
+        },
+    };
+    let mut text = [0u8; 23324];
+    let Wrote::Past(n) = board_lines::write_gone(answer, board, &mut text, 0) else {
+        return false;
+    };
+    print(&text, n)
+}
+
+// A call behind another.
+fn go_on(
+    went: LentGo,
+    marks: &mut [u8; 128],
+    xs: &mut [i32; 128],
+    ys: &mut [i32; 128],
+    held: &mut [u8; 128],
+    inputs: &mut [i32; 1280],
+    rows: &[i32; 5120],
+    tens: &[i32; 5120],
+    formers: &[i32; 5120],
+    step: usize,
+) -> LentGo {
+    let tick = went.tick;
+    let counts = went.counts;
+    let progress = went.progress;
+    going::go_lent(
+        tick,
+        marks,
+        xs,
+        ys,
+        held,
+        inputs,
+        counts,
+        rows,
+        tens,
+        formers,
+        progress,
+        step,
+    )
+}
+
+fn is_over(went: LentGo) -> bool {
+    let answer = went.answer;
+    match answer {
+        GoAnswer::Ended => true,
+        GoAnswer::Going => false,
+        GoAnswer::Refused(_) => true,
+    }
+}
+
+// Calls until one isn't going, or can't be printed. One that is going stepped over an event at least, and of 512 fewer than 512 are newer
+// than a TickStart.
+fn go_all(
+    first: LentGo,
+    entries: Entries,
+    rows: &[i32; 5120],
+    tens: &[i32; 5120],
+    formers: &[i32; 5120],
+    step: usize,
+) {
+    let mut marks = entries.marks;
+    let mut xs = entries.xs;
+    let mut ys = entries.ys;
+    let mut held = entries.held;
+    let mut inputs = entries.inputs;
+    let mut went = first;
+    let mut calls: u64 = 512;
+    while 0 < calls {
+        went = go_on(
+            went,
+            &mut marks,
+            &mut xs,
+            &mut ys,
+            &mut held,
+            &mut inputs,
+            rows,
+            tens,
+            formers,
+            step,
+        );
+        let printed = print_gone(went, marks, xs, ys, held, inputs);
+        calls = fewer(calls, goes_on(is_over(went), !printed));
+    }
+}
+
+// What stands before the first call.
+fn before(started: LentStart, counts: Counts) -> LentGo {
+    let board = started.board;
+    let tick = board.tick;
+    let progress = started.progress;
+    LentGo {
+        answer: GoAnswer::Going,
+        tick,
+        counts,
+        progress,
+    }
+}
+
+// The rewind on a reel of its own, so many events a call.
+fn rewind_by(
+    wanted: Wanted,
+    reader: Reader,
+    counts: Counts,
+    rows: &[i32; 5120],
+    inputs: &[i32; 5120],
+    formers: &[i32; 5120],
+) {
+    let mut own_rows = [0i32; 5120];
+    let mut own_inputs = [0i32; 5120];
+    let mut own_formers = [0i32; 5120];
+    let started = going::start_lent(
+        reader,
+        counts,
+        rows,
+        inputs,
+        formers,
+        wanted.tick,
+        &mut own_rows,
+        &mut own_inputs,
+        &mut own_formers,
+    );
+    let answer = started.answer;
+    let board = started.board;
+    let entries = board.entries;
+    match answer {
+        StartAnswer::Started => go_all(
+            before(started, counts),
+            entries,
+            &own_rows,
+            &own_inputs,
+            &own_formers,
+            wanted.step,
+        ),
+        StartAnswer::Refused(why) => refuse(why),
+    }
+}
+
+// The rewind, all at once or so many events a call.
+fn rewind_to(
+    wanted: Wanted,
+    reader: Reader,
+    counts: Counts,
+    rows: &[i32; 5120],
+    inputs: &[i32; 5120],
+    formers: &[i32; 5120],
+) {
+    if wanted.step == 0 {
+        print_rewound(rewinding::rewind_lent(reader, counts, rows, inputs, formers, wanted.tick));
+        return;
+    }
+    rewind_by(wanted, reader, counts, rows, inputs, formers);
+}
+
 // Turns until one is the last, then the rewind. Each turn gives an event, the end or a read; their number is there to bound them. After a
 // failed read nothing is printed.
 fn rewind(first: First, wanted: Wanted, buf: &mut [u8]) {
@@ -205,7 +387,7 @@ fn rewind(first: First, wanted: Wanted, buf: &mut [u8]) {
     if failed {
         return;
     }
-    print_rewound(rewinding::rewind_lent(reader, counts, &rows, &inputs, &formers, wanted.tick));
+    rewind_to(wanted, reader, counts, &rows, &inputs, &formers);
 }
 
 fn refuse(refusal: Refusal) {
@@ -283,5 +465,5 @@ fn main() {
         run(wanted);
         return;
     }
-    say(b"usage: rewind TICK [0 [EVENTS]], each a number up to 2147483647\n");
+    say(b"usage: rewind TICK [STEP [EVENTS]], each a number up to 2147483647\n");
 }
