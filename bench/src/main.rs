@@ -1,7 +1,7 @@
 //! Reading and replaying the same bodies by libtw2 and by the proved reader: bench DIR ROUNDS
 //!
 //! DIR holds bodies named SORT-MEGABYTES, each after its version byte; both replay programs and ladder are run on them. A small body named
-//! SORT-small is rewound.
+//! SORT-small is rewound, at once and by so many events a call.
 
 mod programs;
 mod readers;

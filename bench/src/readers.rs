@@ -42,6 +42,36 @@ extern "C" {
         held: *mut [u8; 128],
         numbers: *mut [i32; 1280],
     ) -> u8;
+    fn jolzerv_start_rewind(
+        second: bool,
+        body: *const u8,
+        length: usize,
+        tick: i32,
+        rows: *mut [i32; 5120],
+        inputs: *mut [i32; 5120],
+        formers: *mut [i32; 5120],
+        marks: *mut [u8; 128],
+        xs: *mut [i32; 128],
+        ys: *mut [i32; 128],
+        held: *mut [u8; 128],
+        numbers: *mut [i32; 1280],
+        three: *mut [usize; 3],
+        two: *mut [i32; 2],
+    ) -> u8;
+    fn jolzerv_go_on(
+        tick: i32,
+        events: usize,
+        rows: *const [i32; 5120],
+        inputs: *const [i32; 5120],
+        formers: *const [i32; 5120],
+        marks: *mut [u8; 128],
+        xs: *mut [i32; 128],
+        ys: *mut [i32; 128],
+        held: *mut [u8; 128],
+        numbers: *mut [i32; 1280],
+        three: *mut [usize; 3],
+        two: *mut [i32; 2],
+    ) -> u8;
 }
 
 /// A reel, ten numbers for each of 512 places.
@@ -60,6 +90,34 @@ impl Reel {
             inputs: [0; 5120],
             formers: [0; 5120],
             counts: [0; 2],
+        }
+    }
+}
+
+/// What a rewind under way changes, call by call; its reel stands beside it.
+#[derive(Clone)]
+pub struct UnderWay {
+    marks: [u8; 128],
+    xs: [i32; 128],
+    ys: [i32; 128],
+    held: [u8; 128],
+    numbers: [i32; 1280],
+    /// The reel's next place and count, and how many rows are newer than the TickStart.
+    three: [usize; 3],
+    /// The copy's tick, and whether an event didn't fit.
+    two: [i32; 2],
+}
+
+impl UnderWay {
+    pub fn new() -> UnderWay {
+        UnderWay {
+            marks: [0; 128],
+            xs: [0; 128],
+            ys: [0; 128],
+            held: [0; 128],
+            numbers: [0; 1280],
+            three: [0; 3],
+            two: [0; 2],
         }
     }
 }
@@ -134,6 +192,50 @@ pub fn rewound(version: u8, body: &[u8], tick: i32, reel: &mut Reel) -> u8 {
     };
     black_box((&marks, &xs, &ys, &held, &numbers));
     answer
+}
+
+/// Reads with a reel beside and starts a rewind to a tick: 0, or the number of the refusal.
+pub fn start(version: u8, body: &[u8], tick: i32, reel: &mut Reel, rewind: &mut UnderWay) -> u8 {
+    // SAFETY: a pointer and a length of one slice, which the call only reads, and pointers to ten arrays that it fills
+    unsafe {
+        jolzerv_start_rewind(
+            version == 2,
+            body.as_ptr(),
+            body.len(),
+            tick,
+            &mut reel.rows,
+            &mut reel.inputs,
+            &mut reel.formers,
+            &mut rewind.marks,
+            &mut rewind.xs,
+            &mut rewind.ys,
+            &mut rewind.held,
+            &mut rewind.numbers,
+            &mut rewind.three,
+            &mut rewind.two,
+        )
+    }
+}
+
+/// A call of a rewind under way: 0 if it has ended, 255 if it is going, or the number of the refusal.
+pub fn go_on(tick: i32, events: usize, reel: &Reel, rewind: &mut UnderWay) -> u8 {
+    // SAFETY: pointers to three arrays that the call only reads, and to seven that it changes
+    unsafe {
+        jolzerv_go_on(
+            tick,
+            events,
+            &reel.rows,
+            &reel.inputs,
+            &reel.formers,
+            &mut rewind.marks,
+            &mut rewind.xs,
+            &mut rewind.ys,
+            &mut rewind.held,
+            &mut rewind.numbers,
+            &mut rewind.three,
+            &mut rewind.two,
+        )
+    }
 }
 
 /// The results list by the proved reader: how many rows it has.

@@ -1,7 +1,7 @@
 // Rewinds bodies and prints what the rewind program prints of them. Standard input holds cases one behind the other, each after its length in
 // three bytes, the low one first: the number of ticks in a byte, the ticks in four bytes each, the most events in four bytes (all ones: as many
-// as there are), a version byte, a body. Each tick is rewound to by the call on lent arrays, by the one by value and by the one for C and Rust
-// programs; where they differ a line says so.
+// as there are), a version byte, a body. Each tick is rewound to by the call on lent arrays, by the one by value and by those for C and Rust
+// programs, at once and under way; where they differ a line says so.
 use back::Board;
 use feed::Hand;
 use kinds::Version;
@@ -189,6 +189,121 @@ fn same_linked(version: Version, body: &[u8], tick: i32, rewound: Rewound) -> bo
     alike::same_entries(entries, other) & (number == number_of(answer))
 }
 
+// Goes on by 7 events a call as long as the rewind is going, which 74 calls are enough for: the number of the last answer.
+fn go_by_seven(
+    tick: i32,
+    rows: &[i32; 5120],
+    tens: &[i32; 5120],
+    formers: &[i32; 5120],
+    marks: &mut [u8; 128],
+    xs: &mut [i32; 128],
+    ys: &mut [i32; 128],
+    held: &mut [u8; 128],
+    inputs: &mut [i32; 1280],
+    three: &mut [usize; 3],
+    two: &mut [i32; 2],
+) -> u8 {
+    let mut number: u8 = 255;
+    for _ in 0..74usize {
+        if number == 255 {
+            number = rewind_linked::jolzerv_go_on(
+                tick,
+                7,
+                rows,
+                tens,
+                formers,
+                marks,
+                xs,
+                ys,
+                held,
+                inputs,
+                three,
+                two,
+            );
+        }
+    }
+    number
+}
+
+// Reads a body whole, starts a rewind and goes on to its end: 0, or the number of the refusal.
+fn under_way(
+    second: bool,
+    body: &[u8],
+    tick: i32,
+    marks: &mut [u8; 128],
+    xs: &mut [i32; 128],
+    ys: &mut [i32; 128],
+    held: &mut [u8; 128],
+    inputs: &mut [i32; 1280],
+) -> u8 {
+    let mut rows = [0i32; 5120];
+    let mut tens = [0i32; 5120];
+    let mut formers = [0i32; 5120];
+    let mut three = [600usize; 3];
+    let mut two = [2i32; 2];
+    let number = rewind_linked::jolzerv_start_rewind(
+        second,
+        body,
+        tick,
+        &mut rows,
+        &mut tens,
+        &mut formers,
+        marks,
+        xs,
+        ys,
+        held,
+        inputs,
+        &mut three,
+        &mut two,
+    );
+    if number != 0 {
+        return number;
+    }
+    go_by_seven(
+        tick,
+        &rows,
+        &tens,
+        &formers,
+        marks,
+        xs,
+        ys,
+        held,
+        inputs,
+        &mut three,
+        &mut two,
+    )
+}
+
+// Whether a rewind that is started and gone on with by such calls ends with the same. On a body read whole no event doesn't fit.
+fn same_under_way(version: Version, body: &[u8], tick: i32, rewound: Rewound) -> bool {
+    let mut marks = [2u8; 128];
+    let mut xs = [2i32; 128];
+    let mut ys = [2i32; 128];
+    let mut held = [2u8; 128];
+    let mut inputs = [2i32; 1280];
+    let number = under_way(
+        is_second(version),
+        body,
+        tick,
+        &mut marks,
+        &mut xs,
+        &mut ys,
+        &mut held,
+        &mut inputs,
+    );
+    let entries = Entries {
+        marks,
+        xs,
+        ys,
+        held,
+        inputs,
+    };
+    let board: Board = rewound.board;
+    let other = board.entries;
+    let answer = rewound.answer;
+    alike::same_entries(entries, other) & (number == number_of(answer))
+}
+
 // The calls for C and Rust programs read a body whole, without a window: they are held to the turns on bodies that fit a window and are read to
 // their end.
 fn is_whole(body: &[u8], events: usize) -> bool {
@@ -205,6 +320,9 @@ fn hold_linked(version: Version, body: &[u8], read: Read, tick: i32) {
     }
     if !same_linked(version, body, tick, rewound) {
         say(b"rewound in memory it differs\n");
+    }
+    if !same_under_way(version, body, tick, rewound) {
+        say(b"under way in memory it differs\n");
     }
 }
 

@@ -9,7 +9,7 @@ use Rattle.rewind_linked.proofs.jolzerv_rewind_body.Tie as tie
 
 returns : tie.Need-returns
 returns c =
-    let w = c .before .before .before .before .before .before .before .before in
+    let w = c .before .before .before .before .before .before .before .before .before in
     let read = w .before .before .before .before .before .before .read-all in
     let st = w .before .before .before .before .before .before .before .before .before .before .before in
     let same = rw (back (st .args .tick) (st .fits .tick), read .ensures .left, read .ensures .reel) at (w .rewind-lent .ensures) in
@@ -17,9 +17,9 @@ returns c =
       counts = read .result .counts;
       reel = read .ensures .reel;
       answer = c .answer-number .ensures ∙ ap (λ (x : Rewound). answerNumber (x .answer)) same;
-      copy = ap (λ (x : Rewound). x .board .entries) same;
+      copy = c .before .put-entries .ensures ∙ ap (λ (x : Rewound). x .board .entries) same;
     }
 
 pub jolzerv-rewind-body-spec : {M : Type 1} → statement M
 jolzerv-rewind-body-spec =
-    tie.close (tie.spec (λ c κs. search needs) (λ c κs. search needs) (λ c κs. search needs) returns)
+    tie.close (tie.spec (λ c κs. search needs) (λ c κs. search needs) (λ c κs. search needs) (λ c κs. search needs) returns)
