@@ -1,17 +1,24 @@
-// Reels that no reading fills, beside good and bad readers: refusals 17, 18, 20 and 19, their order, and what a refusal leaves as it was.
+// Reels that no reading fills, beside good and bad readers, and rewinds under way over them: refusals 17, 18, 20 and 19, their order, and what a
+// refusal leaves as it was.
 // Standard input holds cases one behind the other, each after its length in two bytes, the low one first: what it is, the length of its name,
 // the name, bytes. A number is 100 more than it stands for.
 //   0: a rewind. A reader as alike::reader_in takes it, a tick, a client that is looked up on the copy, a reel
 //   1: an event kept. Its sort as in a row, five numbers, the place of one of its ten numbers, that number, the former one, a reel
 //   2: reading. A reader, the most events, whether the window is the last, its length, the window, a reel
 //   3: a reel: its counts, and what the row before the next place tells
+//   4: a rewind under way. A reader whose board is the copy, a tick, a client that is looked up after each call, how many rows are newer than
+//      TickStart in two bytes, whether an event didn't fit, the number of calls, of each call the number of events in two bytes, a reel
+//   5: a start. A reader, a tick, a client and the calls on what is started as in 4, a reel
 // A reel is the next place and the number of rows kept, two bytes each, the low one first; the first number of every row; how many rows are
 // written over; each of these: its place in two bytes, its first six numbers, the place of one of its ten numbers, that number, the former one.
+mod under_way;
+
 use back::Board;
 use back::Undo;
 use item::Item;
 use kinds::Version;
 use libc::STDOUT_FILENO;
+use lookups::InputOf;
 use lookups::Pos;
 use many::Stop;
 use reel::Counts;
@@ -40,11 +47,15 @@ fn print_ten(word: &[u8], ten: [i32; 10]) {
     print(texts::plain(word, &ten));
 }
 
-fn print_two(word: &[u8], a: usize, b: usize) {
+fn say_two(word: &[u8], a: usize, b: usize) {
     say(word);
     io::print_decimal(STDOUT_FILENO, a as u64);
     say(b" ");
     io::print_decimal(STDOUT_FILENO, b as u64);
+}
+
+fn print_two(word: &[u8], a: usize, b: usize) {
+    say_two(word, a, b);
     say(b"\n");
 }
 
@@ -174,13 +185,16 @@ fn same_counts(a: Counts, b: Counts) -> bool {
     (a.next == b.next) & (a.count == b.count)
 }
 
+fn same_arrays(a: Reel, b: Reel) -> bool {
+    same_numbers(&a.rows, &b.rows)
+        & same_numbers(&a.inputs, &b.inputs)
+        & same_numbers(&a.formers, &b.formers)
+}
+
 fn same_reel(a: Reel, b: Reel) -> bool {
     let one = a.counts;
     let other = b.counts;
-    same_counts(one, other)
-        & same_numbers(&a.rows, &b.rows)
-        & same_numbers(&a.inputs, &b.inputs)
-        & same_numbers(&a.formers, &b.formers)
+    same_counts(one, other) & same_arrays(a, b)
 }
 
 // The counts, and the numbers at a place and in the row before it.
@@ -206,12 +220,12 @@ fn print_rewound(rewound: Rewound) {
     say(cases::window(&text, 0, n));
 }
 
-fn print_looked(board: Board, cid: i32) {
-    match back::player_pos(board, cid) {
+// What lookups found.
+fn print_found(pos: Pos, looked: InputOf) {
+    match pos {
         Pos::At { x, y } => print(texts::plain(b"at", &[x, y])),
         Pos::NoPos => say(b"nowhere\n"),
     }
-    let looked = back::input(board, cid);
     let ten = looked.input;
     if looked.there {
         print_ten(b"has", ten);
@@ -235,7 +249,7 @@ fn report(rewound: Rewound, cid: i32) {
     let board = rewound.board;
     print_rewound(rewound);
     if number_of(answer) == 0 {
-        print_looked(board, cid);
+        print_found(back::player_pos(board, cid), back::input(board, cid));
         return;
     }
     say_if(
@@ -265,6 +279,10 @@ fn rewind_case(s: &[u8]) {
     say_if(
         !same_rewound(rewound, rewinding::rewind(reader, given, tick)),
         b"by value it differs\n",
+    );
+    say_if(
+        !under_way::same_in_calls(rewound, reader, given, tick),
+        b"in calls it differs\n",
     );
 }
 
@@ -439,7 +457,9 @@ fn run_named(what: u8, s: &[u8]) {
         0 => rewind_case(s),
         1 => keep_case(s),
         2 => read_case(s),
-        _ => reel_case(s),
+        3 => reel_case(s),
+        4 => under_way::go_case(s),
+        _ => under_way::start_case(s),
     }
 }
 

@@ -1,7 +1,10 @@
 //! What libtw2's lookups answer, as lines.
 
+use crate::expected::LARGEST_CLIENT;
 use crate::text;
+use libtw2_teehistorian::raw::Pos;
 use libtw2_teehistorian::raw::Reader;
+use std::fmt;
 use std::io;
 use std::io::Write;
 
@@ -16,4 +19,58 @@ pub fn write_client(out: &mut impl Write, reader: &Reader, client: i32) -> io::R
         writeln!(out)?;
     }
     Ok(())
+}
+
+/// What the lookups tell of clients 0 to 127 at one time: the players that are present and the inputs, each rising by client.
+#[derive(Default)]
+pub struct Board {
+    players: Vec<(i32, Pos)>,
+    inputs: Vec<(i32, [i32; 10])>,
+}
+
+impl Board {
+    pub fn of(reader: &Reader) -> Board {
+        let clients = || 0..=LARGEST_CLIENT;
+        Board {
+            players: clients()
+                .filter_map(|client| Some((client, reader.player_pos(client)?)))
+                .collect(),
+            inputs: clients()
+                .filter_map(|client| Some((client, reader.input(client)?)))
+                .collect(),
+        }
+    }
+    pub fn player_pos(&self, client: i32) -> Option<Pos> {
+        found(&self.players, client)
+    }
+    pub fn input(&self, client: i32) -> Option<[i32; 10]> {
+        found(&self.inputs, client)
+    }
+    /// The clients of its lines.
+    pub fn clients(&self) -> Vec<i32> {
+        let players = self.players.iter().map(|(client, _)| *client);
+        let inputs = self.inputs.iter().map(|(client, _)| *client);
+        players.chain(inputs).collect()
+    }
+    /// The number of its lines.
+    pub fn size(&self) -> u64 {
+        (self.players.len() + self.inputs.len()) as u64
+    }
+}
+
+fn found<T: Copy>(list: &[(i32, T)], client: i32) -> Option<T> {
+    let (_, value) = list.iter().find(|(other, _)| *other == client)?;
+    Some(*value)
+}
+
+impl fmt::Display for Board {
+    fn fmt(&self, f: &mut fmt::Formatter) -> fmt::Result {
+        for (client, pos) in &self.players {
+            writeln!(f, "player {client} {} {}", pos.x, pos.y)?;
+        }
+        for (client, input) in &self.inputs {
+            writeln!(f, "input {client}{}", text::numbers(input))?;
+        }
+        Ok(())
+    }
 }

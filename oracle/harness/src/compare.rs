@@ -1,8 +1,9 @@
-//! `oracle compare N SEED REPLAY LOOKUPS LADDER REWIND`: the programs against libtw2 on generated inputs.
+//! `oracle compare N SEED REPLAY LOOKUPS LADDER REWIND GOING`: the programs against libtw2 on generated inputs.
 
 use crate::batch::Batch;
 use crate::expected::expected;
 use crate::expected::Left;
+use crate::goings::Goings;
 use crate::lists::Lists;
 use crate::rewinds::Rewinds;
 use crate::subject::Subject;
@@ -20,6 +21,7 @@ pub struct Programs<'a> {
     pub lookups: &'a str,
     pub ladder: &'a str,
     pub rewind: &'a str,
+    pub going: &'a str,
 }
 
 #[derive(Default)]
@@ -35,6 +37,7 @@ pub fn command(count: u64, seed: u64, programs: &Programs) -> io::Result<ExitCod
     let mut batch = Batch::new(programs.lookups);
     let mut lists = Lists::new(programs.ladder);
     let mut rewinds = Rewinds::new(programs.rewind);
+    let mut goings = Goings::new(programs.going);
     let mut parts = Vec::new();
     for sort in generator::SORTS {
         let inputs = sort_count(sort, count);
@@ -44,19 +47,33 @@ pub fn command(count: u64, seed: u64, programs: &Programs) -> io::Result<ExitCod
             compare_one(programs.replay, &input, &origin, &mut total)?;
             lists.compare(&input, &origin)?;
             rewinds.add(&[seed, sort as u64, index], input.clone(), origin.clone())?;
+            goings.add(
+                &[seed, sort as u64, index, 1],
+                input.clone(),
+                origin.clone(),
+            )?;
             batch.add(index, input, origin)?;
         }
         parts.push(format!("{} {inputs}", sort.name()));
     }
     batch.compare()?;
     rewinds.compare()?;
+    goings.compare()?;
     println!("{}", summary(seed, &parts, &total));
     println!("{}", batch.summary());
     println!("{}", lists.summary());
     println!("{}", rewinds.summary());
-    let differences =
-        total.differences + batch.differences() + lists.differences() + rewinds.differences();
-    Ok(ExitCode::from(u8::from(differences > 0)))
+    println!("{}", goings.summary());
+    let differences = [
+        total.differences,
+        batch.differences(),
+        lists.differences(),
+        rewinds.differences(),
+        goings.differences(),
+    ];
+    Ok(ExitCode::from(u8::from(
+        differences.iter().any(|count| *count > 0),
+    )))
 }
 
 fn sort_count(sort: Sort, count: u64) -> u64 {

@@ -87,7 +87,7 @@ impl Lookups {
 }
 
 /// The tick that was started and hasn't ended. libtw2's reader keeps it to itself; its events tell it.
-fn tick_after(tick: Option<i32>, event: &Item) -> Option<i32> {
+pub fn tick_after(tick: Option<i32>, event: &Item) -> Option<i32> {
     match event {
         Item::TickStart(started) => Some(*started),
         Item::TickEnd(_) => None,

@@ -4,6 +4,7 @@ use oracle::bench;
 use oracle::compare;
 use oracle::expected;
 use oracle::framed;
+use oracle::going;
 use oracle::input;
 use oracle::integers;
 use oracle::invalid;
@@ -13,6 +14,7 @@ use oracle::lookups;
 use oracle::records;
 use oracle::replay;
 use oracle::rewind;
+use oracle::scripts;
 use std::io;
 use std::process::ExitCode;
 
@@ -22,15 +24,17 @@ const USAGE: &str = "usage:
   oracle ladder                                < INPUT
   oracle ladders                               < INPUTS
   oracle lookups                               < INPUTS
-  oracle rewind TICK [0 [EVENTS]]              < INPUT
+  oracle rewind TICK [STEP [EVENTS]]           < INPUT
   oracle rewinds                               < CASES
   oracle rewind_cases                          < LINES
+  oracle going                                 < CASES
+  oracle going_cases                           < LINES
   oracle reel                                  < INPUT
   oracle framed                                < LINES
   oracle records                               < LINES
   oracle integers                              < LINES
   oracle bench FILE ROUNDS
-  oracle compare N SEED REPLAY LOOKUPS LADDER REWIND";
+  oracle compare N SEED REPLAY LOOKUPS LADDER REWIND GOING";
 
 fn main() -> ExitCode {
     let arguments: Vec<String> = std::env::args().skip(1).collect();
@@ -51,21 +55,27 @@ fn command(words: &[&str]) -> io::Result<ExitCode> {
         ["ladder"] => print!("{}", ladder::ladder(&input()?).text),
         ["ladders"] => ladder::command()?,
         ["lookups"] => lookups::command()?,
-        ["rewind", tick] | ["rewind", tick, "0"] => print!("{}", rewound(tick, None)?),
-        ["rewind", tick, "0", events] => print!("{}", rewound(tick, Some(number(events)?))?),
+        ["rewind", tick] => print!("{}", rewound(tick, 0, None)?),
+        ["rewind", tick, step] => print!("{}", rewound(tick, number(step)?, None)?),
+        ["rewind", tick, step, events] => {
+            print!("{}", rewound(tick, number(step)?, Some(number(events)?))?);
+        }
         ["rewinds"] => jumps::command()?,
         ["rewind_cases"] => jumps::cases()?,
+        ["going"] => scripts::command()?,
+        ["going_cases"] => scripts::cases()?,
         ["reel"] => print!("{}", jumps::reel(&input()?)),
         ["framed"] => framed::command()?,
         ["records"] => records::command()?,
         ["integers"] => integers::command()?,
         ["bench", file, rounds] => bench::command(file, number(rounds)?)?,
-        ["compare", count, seed, replay, lookups, ladder, rewind] => {
+        ["compare", count, seed, replay, lookups, ladder, rewind, going] => {
             let programs = compare::Programs {
                 replay,
                 lookups,
                 ladder,
                 rewind,
+                going,
             };
             return compare::command(number(count)?, number(seed)?, &programs);
         }
@@ -75,10 +85,13 @@ fn command(words: &[&str]) -> io::Result<ExitCode> {
 }
 
 /// What the program rewind prints.
-fn rewound(tick: &str, limit: Option<u64>) -> io::Result<String> {
+fn rewound(tick: &str, step: u64, limit: Option<u64>) -> io::Result<String> {
     let tick = jumps::tick(tick).ok_or_else(|| invalid(&format!("{tick} is not a tick")))?;
-    let past = rewind::Past::of(&input()?, limit);
-    Ok(past.rewound(tick).text())
+    let input = input()?;
+    Ok(match step {
+        0 => rewind::Past::of(&input, limit).rewound(tick).text(),
+        step => going::rewound(&input, tick, step, limit),
+    })
 }
 
 fn number(word: &str) -> io::Result<u64> {

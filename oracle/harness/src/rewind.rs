@@ -1,19 +1,15 @@
 //! What the program rewind must print. libtw2 reads and keeps no reel, so the reel is a model beside it, made the plain way: of
 //! every TickStart event the board just after it is kept, and a rewind looks for its tick among the last 512 events.
 
+use crate::board::Board;
 use crate::expected::has_large_client;
 use crate::expected::start;
-use crate::expected::LARGEST_CLIENT;
 use crate::run::Answer;
 use crate::run::Run;
-use crate::text;
 use libtw2_teehistorian::raw::Item;
-use libtw2_teehistorian::raw::Reader;
-use std::io;
-use std::io::Write;
 
 /// The reel keeps so many events.
-const REEL: u64 = 512;
+pub const REEL: u64 = 512;
 
 /// How reading ended.
 #[derive(Clone, Copy, PartialEq)]
@@ -29,7 +25,7 @@ enum End {
 struct Start {
     tick: i32,
     event: u64,
-    board: String,
+    board: Board,
 }
 
 /// All that reading has shown.
@@ -41,14 +37,14 @@ pub struct Past {
 
 /// What a rewind answers.
 pub enum Rewound<'a> {
-    Board { tick: i32, lines: &'a str },
+    Ended { tick: i32, board: &'a Board },
     Refused(u8),
 }
 
 impl Rewound<'_> {
     pub fn text(&self) -> String {
         match self {
-            Rewound::Board { tick, lines } => format!("board {tick}\n{lines}ended\n"),
+            Rewound::Ended { tick, board } => format!("board {tick}\n{board}ended\n"),
             Rewound::Refused(number) => format!("refused {number}\n"),
         }
     }
@@ -81,7 +77,7 @@ impl Past {
                 self.starts.push(Start {
                     tick,
                     event: self.events,
-                    board: board(run.reader()),
+                    board: Board::of(run.reader()),
                 });
             }
         }
@@ -93,9 +89,9 @@ impl Past {
             End::NoVersion => Rewound::Refused(2),
             End::Refused => Rewound::Refused(18),
             End::Open => match newest_first.find(|start| start.tick == tick) {
-                Some(start) if self.on_reel(start) => Rewound::Board {
+                Some(start) if self.on_reel(start) => Rewound::Ended {
                     tick,
-                    lines: &start.board,
+                    board: &start.board,
                 },
                 _ => Rewound::Refused(20),
             },
@@ -111,9 +107,15 @@ impl Past {
     pub fn events(&self) -> u64 {
         self.events
     }
-    /// The numbers of the TickStart events.
-    pub fn start_events(&self) -> Vec<u64> {
-        self.starts.iter().map(|start| start.event).collect()
+    /// The numbers of the TickStart events, each with its tick.
+    pub fn starts(&self) -> Vec<(u64, i32)> {
+        let starts = self.starts.iter();
+        starts.map(|start| (start.event, start.tick)).collect()
+    }
+    /// The clients on the board of the newest TickStart.
+    pub fn clients(&self) -> Vec<i32> {
+        let newest = self.starts.last();
+        newest.map_or(Vec::new(), |start| start.board.clients())
     }
     /// The ticks that have left the reel, then those on it, the oldest first.
     pub fn ticks(&self) -> (Vec<i32>, Vec<i32>) {
@@ -124,29 +126,6 @@ impl Past {
             kept.map(|start| start.tick).collect(),
         )
     }
-}
-
-/// The players that are present, then the inputs, each rising by client.
-fn board(reader: &Reader) -> String {
-    let mut lines = Vec::new();
-    write_board(&mut lines, reader).expect("a vector takes every byte");
-    String::from_utf8(lines).expect("a line is ASCII")
-}
-
-fn write_board(out: &mut impl Write, reader: &Reader) -> io::Result<()> {
-    for client in 0..=LARGEST_CLIENT {
-        if let Some(pos) = reader.player_pos(client) {
-            writeln!(out, "player {client} {} {}", pos.x, pos.y)?;
-        }
-    }
-    for client in 0..=LARGEST_CLIENT {
-        if let Some(input) = reader.input(client) {
-            write!(out, "input {client}")?;
-            text::write_numbers(out, &input)?;
-            writeln!(out)?;
-        }
-    }
-    Ok(())
 }
 
 #[cfg(test)]

@@ -96,9 +96,9 @@ impl Count {
     fn count(&mut self, answers: &[Rewound]) {
         for answer in answers {
             match answer {
-                Rewound::Board { lines, .. } => {
+                Rewound::Ended { board, .. } => {
                     self.boards += 1;
-                    self.lines += lines.lines().count() as u64;
+                    self.lines += board.size();
                 }
                 Rewound::Refused(18) => self.closed += 1,
                 Rewound::Refused(20) => self.gone += 1,
@@ -118,9 +118,10 @@ fn limit(past: &Past, random: &mut Random) -> Option<u64> {
     if !random.one_in(share) {
         return None;
     }
-    let starts = past.start_events();
+    let starts = past.starts();
     if starts.is_empty() || random.one_in(2) {
         return Some(random.next() % (past.events() + 2));
     }
-    Some(random.pick(&starts) - random.below(2) as u64)
+    let (event, _) = random.pick(&starts);
+    Some(event - random.below(2) as u64)
 }

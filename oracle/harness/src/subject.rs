@@ -8,7 +8,9 @@ use crate::jumps::Jumps;
 use crate::ladder::ladder;
 use crate::lookups::lookups;
 use crate::program::output;
+use crate::scripts::Script;
 use crate::shrink::shrink;
+use crate::stage::told;
 use crate::ties::settled;
 use std::io;
 use std::io::Write;
@@ -26,6 +28,8 @@ pub enum Task {
     Ladder,
     /// The boards that rewind_vectors prints for these ticks.
     Rewind(Jumps),
+    /// What going_vectors prints of this script.
+    Going(Script),
 }
 
 pub struct Subject<'a> {
@@ -40,6 +44,7 @@ impl Subject<'_> {
             Task::Replay | Task::Ladder => input.to_vec(),
             Task::Lookups(when) => framed(input, *when),
             Task::Rewind(jumps) => jumps.framed(input),
+            Task::Going(script) => script.framed(input),
         }
     }
     fn wanted(&self, input: &[u8]) -> String {
@@ -48,6 +53,7 @@ impl Subject<'_> {
             Task::Lookups(when) => lookups(input, *when).text,
             Task::Ladder => ladder(input).text,
             Task::Rewind(jumps) => jumps.text(input),
+            Task::Going(script) => told(script, input).text,
         }
     }
     /// What the program prints for what it reads, as far as it can matter.
@@ -58,8 +64,8 @@ impl Subject<'_> {
     pub fn prints(&self, given: &[u8], wanted: &str) -> io::Result<bool> {
         let printed = self.printed(given, wanted)?;
         Ok(match self.task {
-            Task::Replay | Task::Lookups(_) | Task::Rewind(_) => printed == wanted,
             Task::Ladder => settled(&printed) == wanted,
+            _ => printed == wanted,
         })
     }
     pub fn differs(&self, input: &[u8]) -> io::Result<bool> {
@@ -89,14 +95,19 @@ impl Subject<'_> {
             task => self.with(task.clone()),
         }
     }
-    /// With one tick alone, if the program differs there.
+    /// With one tick alone or with fewer steps, if the program differs there.
     fn narrowed(self, input: &[u8]) -> io::Result<Self> {
-        if let Task::Rewind(jumps) = &self.task {
-            for one in jumps.each() {
-                let single = self.with(Task::Rewind(one));
-                if single.differs(input)? {
-                    return Ok(single);
-                }
+        let narrower: Vec<Task> = match &self.task {
+            Task::Rewind(jumps) if jumps.ticks.len() > 1 => {
+                jumps.each().map(Task::Rewind).collect()
+            }
+            Task::Going(script) => script.shorter().map(Task::Going).collect(),
+            _ => Vec::new(),
+        };
+        for task in narrower {
+            let narrowed = self.with(task);
+            if narrowed.differs(input)? {
+                return narrowed.narrowed(input);
             }
         }
         Ok(self)
@@ -105,8 +116,10 @@ impl Subject<'_> {
         let wanted = self.wanted(input);
         let mut out = io::stdout().lock();
         writeln!(out, "input: {}", hex(input))?;
-        if let Task::Rewind(jumps) = &self.task {
-            writeln!(out, "rewound {jumps}")?;
+        match &self.task {
+            Task::Rewind(jumps) => writeln!(out, "rewound {jumps}")?,
+            Task::Going(script) => writeln!(out, "steps {script}")?,
+            _ => (),
         }
         writeln!(out, "libtw2, with what it lacks put in:")?;
         write!(out, "{wanted}")?;

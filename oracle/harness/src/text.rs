@@ -37,6 +37,11 @@ pub fn write_numbers(out: &mut impl Write, list: &[i32]) -> io::Result<()> {
     list.iter().try_for_each(|number| write!(out, " {number}"))
 }
 
+/// The same as text.
+pub fn numbers(list: &[i32]) -> String {
+    list.iter().map(|number| format!(" {number}")).collect()
+}
+
 fn write_record(out: &mut impl Write, record: &format::Item) -> io::Result<()> {
     match record.cid() {
         Some(client) => write!(out, "record {} {client}", kind(record)),
