@@ -295,3 +295,43 @@ pub fn go_lent(
     );
     went(over, counts, progress)
 }
+
+// A call behind another, on what that left.
+pub fn go_further(
+    went: LentGo,
+    marks: &mut [u8; 128],
+    xs: &mut [i32; 128],
+    ys: &mut [i32; 128],
+    held: &mut [u8; 128],
+    inputs: &mut [i32; 1280],
+    rows: &[i32; 5120],
+    tens: &[i32; 5120],
+    formers: &[i32; 5120],
+    events: usize,
+) -> LentGo
+    ensures { λ r. ⌜
+        goIs r (entriesWith (now (marks .exit)) (now (xs .exit)) (now (ys .exit)) (now (held .exit)) (now (inputs .exit)))
+        (reelOf (r .counts) (now (rows .entry)) (now (tens .entry)) (now (formers .entry)))
+        ≡ goOn
+        (rewindOf (board (went .tick) (entriesWith (now (marks .entry)) (now (xs .entry)) (now (ys .entry)) (now (held .entry)) (now (inputs .entry))))
+        (reelOf (went .counts) (now (rows .entry)) (now (tens .entry)) (now (formers .entry))) (went .progress)) events
+        ⌝ }
+{
+    let tick = went.tick;
+    let counts = went.counts;
+    let progress = went.progress;
+    go_lent(
+        tick,
+        marks,
+        xs,
+        ys,
+        held,
+        inputs,
+        counts,
+        rows,
+        tens,
+        formers,
+        progress,
+        events,
+    )
+}

@@ -162,38 +162,6 @@ struct LentWalked {
     calls: usize,
 }
 
-// A call behind another.
-fn call_lent(
-    went: LentGo,
-    marks: &mut [u8; 128],
-    xs: &mut [i32; 128],
-    ys: &mut [i32; 128],
-    held: &mut [u8; 128],
-    inputs: &mut [i32; 1280],
-    rows: &[i32; 5120],
-    tens: &[i32; 5120],
-    formers: &[i32; 5120],
-    events: usize,
-) -> LentGo {
-    let tick = went.tick;
-    let counts = went.counts;
-    let progress = went.progress;
-    going::go_lent(
-        tick,
-        marks,
-        xs,
-        ys,
-        held,
-        inputs,
-        counts,
-        rows,
-        tens,
-        formers,
-        progress,
-        events,
-    )
-}
-
 fn walk_on(
     given: LentGo,
     marks: &mut [u8; 128],
@@ -212,7 +180,7 @@ fn walk_on(
     let mut calls: usize = 0;
     let mut left = most;
     while 0 < left {
-        went = call_lent(
+        went = going::go_further(
             went,
             marks,
             xs,

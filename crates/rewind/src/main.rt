@@ -206,38 +206,6 @@ fn print_gone(
     print(&text, n)
 }
 
-// A call behind another.
-fn go_on(
-    went: LentGo,
-    marks: &mut [u8; 128],
-    xs: &mut [i32; 128],
-    ys: &mut [i32; 128],
-    held: &mut [u8; 128],
-    inputs: &mut [i32; 1280],
-    rows: &[i32; 5120],
-    tens: &[i32; 5120],
-    formers: &[i32; 5120],
-    step: usize,
-) -> LentGo {
-    let tick = went.tick;
-    let counts = went.counts;
-    let progress = went.progress;
-    going::go_lent(
-        tick,
-        marks,
-        xs,
-        ys,
-        held,
-        inputs,
-        counts,
-        rows,
-        tens,
-        formers,
-        progress,
-        step,
-    )
-}
-
 fn is_over(went: LentGo) -> bool {
     let answer = went.answer;
     match answer {
@@ -265,7 +233,7 @@ fn go_all(
     let mut went = first;
     let mut calls: u64 = 512;
     while 0 < calls {
-        went = go_on(
+        went = going::go_further(
             went,
             &mut marks,
             &mut xs,
