@@ -209,16 +209,7 @@ fn refuse_start(why: Refusal) -> Begun
 {
     Begun {
         number: why.number(),
-        board: Board {
-            tick: BoardTick::NoTick,
-            entries: Entries {
-                marks: [0; 128],
-                xs: [0; 128],
-                ys: [0; 128],
-                held: [0; 128],
-                inputs: [0; 1280],
-            },
-        },
+        board: rewinding::blank_board(),
         newer: 0,
     }
 }
