@@ -13,6 +13,7 @@ pub mod goings;
 pub mod integers;
 pub mod jumps;
 pub mod ladder;
+pub mod length;
 pub mod lists;
 pub mod lookups;
 pub mod made;

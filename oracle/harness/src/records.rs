@@ -3,6 +3,7 @@
 
 use crate::fields::fields;
 use crate::invalid;
+use crate::length;
 use crate::run::record_refusal;
 use libtw2_packer::Unpacker;
 use libtw2_teehistorian::format::item::Error;
@@ -52,6 +53,9 @@ fn answer(version: Version, bytes: &[u8]) -> String {
     let mut unpacker = Unpacker::new(bytes);
     match Item::decode(&mut unpacker, version) {
         Ok(record) => format!("{} {}", unpacker.num_bytes_read(), fields(&record)),
+        Err(MaybeEnd::UnexpectedEnd) if length::begins_negative(version, bytes) => {
+            format!("refused {}", length::REFUSED)
+        }
         Err(MaybeEnd::UnexpectedEnd) => "runs out".to_string(),
         Err(MaybeEnd::Err(error)) => refusal(&error),
     }

@@ -1,7 +1,9 @@
 //! One reading of a body by libtw2's reader, call by call.
 
+use crate::length;
 use libtw2_teehistorian::format;
 use libtw2_teehistorian::format::item;
+use libtw2_teehistorian::format::Version;
 use libtw2_teehistorian::raw;
 use std::borrow::Cow;
 use std::collections::HashMap;
@@ -25,6 +27,9 @@ pub enum Answer<'a> {
     Stopped,
 }
 
+/// UnexpectedEnd.
+const RUNS_OUT: u8 = 3;
+
 pub struct Run<'b> {
     reader: raw::Reader,
     buffer: raw::Buffer,
@@ -39,6 +44,11 @@ impl<'b> Run<'b> {
             reader,
             buffer: raw::Buffer::new(),
             source: Source {
+                version: if version == 1 {
+                    Version::V1
+                } else {
+                    Version::V2
+                },
                 body,
                 place: 0,
                 pace,
@@ -48,15 +58,21 @@ impl<'b> Run<'b> {
     }
     /// libtw2's own call.
     pub fn read(&mut self) -> Result<Option<raw::Item<'_>>, raw::Error<Stop>> {
-        self.source.requests = 0;
-        self.reader.read(&mut self.source, &mut self.buffer)
+        self.source.read(&mut self.reader, &mut self.buffer)
     }
+    /// The project's answer: libtw2's, but for a negative length, which libtw2 takes for bytes that run out.
     pub fn call(&mut self) -> Answer<'_> {
-        match self.read() {
-            Ok(Some(item)) => Answer::Event(item),
-            Ok(None) => Answer::Finish,
+        let answer = match self.source.read(&mut self.reader, &mut self.buffer) {
+            Ok(Some(item)) => return Answer::Event(item),
+            Ok(None) => return Answer::Finish,
             Err(raw::Error::Teehistorian(error)) => Answer::Refused(refusal(&error)),
             Err(raw::Error::Cb(Stop)) => Answer::Stopped,
+        };
+        match answer {
+            Answer::Refused(RUNS_OUT) | Answer::Stopped if self.source.stops_at_negative() => {
+                Answer::Refused(length::REFUSED)
+            }
+            answer => answer,
         }
     }
     /// How many bytes the reader has been handed.
@@ -69,10 +85,26 @@ impl<'b> Run<'b> {
 }
 
 struct Source<'b> {
+    version: Version,
     body: &'b [u8],
     place: usize,
     pace: Pace,
     requests: usize,
+}
+
+impl Source<'_> {
+    fn read<'a>(
+        &mut self,
+        reader: &mut raw::Reader,
+        buffer: &'a mut raw::Buffer,
+    ) -> Result<Option<raw::Item<'a>>, raw::Error<Stop>> {
+        self.requests = 0;
+        reader.read(self, buffer)
+    }
+    /// Whether the record that the bytes handed over don't hold whole has a negative length.
+    fn stops_at_negative(&self) -> bool {
+        length::stops_at_negative(self.version, &self.body[..self.place])
+    }
 }
 
 #[derive(Debug)]
@@ -103,7 +135,7 @@ impl<'b> raw::Callback for Source<'b> {
 fn refusal(error: &format::Error) -> u8 {
     match error {
         format::Error::UnknownVersion => 2,
-        format::Error::UnexpectedEnd => 3,
+        format::Error::UnexpectedEnd => RUNS_OUT,
         format::Error::Item(error) => record_refusal(error),
         format::Error::InvalidClientId => 8,
         format::Error::TickOverflow => 12,

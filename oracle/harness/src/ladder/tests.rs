@@ -173,7 +173,9 @@ fn payloads() {
         &["02", FINISH, "02 05 0a", FINISH, "01 05 0a 40"],
         "row 5 10 0\nothers 0\nrefused 3\n",
     );
-    lists(&["02", FINISH, "40"], "others 0\nrefused 3\n");
+    // a negative length, and one of which a byte is missing
+    lists(&["02", FINISH, "40"], "others 0\nrefused 21\n");
+    lists(&["02", FINISH, "c0"], "others 0\nrefused 3\n");
 }
 
 /// What comes before the refusal is listed, what comes behind it isn't.
@@ -196,6 +198,8 @@ fn refused() {
         ("03 00 00", 14),
         ("43 03", 15),
         ("44 03 00 00 00 00 00 00 00 00 00 00", 16),
+        ("46 00 40", 21),
+        (&[FINISH, "40"].concat(), 21),
     ] {
         lists(
             &["02", &before, refused, &behind],
@@ -209,12 +213,13 @@ fn refused() {
     );
 }
 
-/// A message of more bytes than a window has; a negative length, which never gets enough of them.
+/// A message of more bytes than a window has; a negative length, which waits for none.
 #[test]
 fn too_long() {
-    for length in ["b0 c5 08", "40"] {
+    for (length, last) in [("b0 c5 08", "too long"), ("40", "refused 21")] {
         let mut input = input(&["02", FINISH, "02 05 0a 46 00", length]);
         input.extend([0x40; 70000]);
-        assert_eq!(ladder(&input).text, "row 5 10 0\nothers 0\ntoo long\n");
+        let wanted = format!("row 5 10 0\nothers 0\n{last}\n");
+        assert_eq!(ladder(&input).text, wanted);
     }
 }

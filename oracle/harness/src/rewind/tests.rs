@@ -131,6 +131,7 @@ fn refused() {
         "04 00 00",
         "43 04",
         "44 03 00 00 00 00 00 00 00 00 00 00",
+        "46 00 40",
         "",
     ] {
         let body = ["02 42 03 00 00 41 00 47 00", refused];
@@ -182,14 +183,15 @@ fn oldest_row() {
     assert_eq!(Past::of(&body(510), None).rewound(1).text(), "refused 20\n");
 }
 
-/// A full window that answers more leaves the reader open; one byte less is refused 3.
+/// A full window that answers more leaves the reader open; one byte less is refused 3, and a negative length 21.
 #[test]
 fn too_long() {
-    for (filling, wanted) in [
-        (65533, "board 0\nended\nrefused 20\n"),
-        (65532, "refused 18\nrefused 18\n"),
+    for (length, filling, wanted) in [
+        ("b0 c5 08", 65531, "board 0\nended\nrefused 20\n"),
+        ("b0 c5 08", 65530, "refused 18\nrefused 18\n"),
+        ("40", 65533, "refused 18\nrefused 18\n"),
     ] {
-        let mut body = input(&["02 42 00 01 01 46 00 40"]);
+        let mut body = input(&["02 42 00 01 01 46 00", length]);
         body.extend([0x40].repeat(filling));
         let past = Past::of(&body, None);
         let text = [past.rewound(0).text(), past.rewound(1).text()].concat();

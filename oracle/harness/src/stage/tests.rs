@@ -163,11 +163,15 @@ fn splits() {
     tells(&input, &steps);
 }
 
-/// A full window that answers more leaves the reader open; one byte less is refused 3.
+/// A full window that answers more leaves the reader open; one byte less is refused 3, and a negative length 21.
 #[test]
 fn too_long() {
-    for (filling, answer) in [(65533, "started"), (65532, "refused 18")] {
-        let mut body = input(&["02 42 00 01 01 46 00 40"]);
+    for (length, filling, answer) in [
+        ("b0 c5 08", 65531, "started"),
+        ("b0 c5 08", 65530, "refused 18"),
+        ("40", 65533, "refused 18"),
+    ] {
+        let mut body = input(&["02 42 00 01 01 46 00", length]);
         body.extend([0x40].repeat(filling));
         tells(&body, &[("read:9", ""), ("start:0:0", answer)]);
     }
