@@ -5,6 +5,7 @@ mod extension;
 mod finishes;
 mod integer;
 mod integer_lines;
+mod lengths;
 mod limits;
 mod long;
 mod noise;
@@ -44,9 +45,11 @@ pub enum Sort {
     Finishes,
     /// More events than a reel keeps: a few players that come, go and act.
     Reels,
+    /// Negative lengths of Messages and extensions: a fixed list first, then some behind other records.
+    Lengths,
 }
 
-pub const SORTS: [Sort; 11] = [
+pub const SORTS: [Sort; 12] = [
     Sort::Match,
     Sort::Moves,
     Sort::Inputs,
@@ -58,6 +61,7 @@ pub const SORTS: [Sort; 11] = [
     Sort::Long,
     Sort::Finishes,
     Sort::Reels,
+    Sort::Lengths,
 ];
 
 impl Sort {
@@ -74,6 +78,7 @@ impl Sort {
             Sort::Long => "long",
             Sort::Finishes => "finishes",
             Sort::Reels => "reels",
+            Sort::Lengths => "lengths",
         }
     }
     pub fn named(name: &str) -> Option<Sort> {
@@ -104,6 +109,7 @@ pub fn input(sort: Sort, seed: u64, index: u64) -> Vec<u8> {
         Sort::Long => long::input(index, &mut random),
         Sort::Finishes => finishes::input(index, &mut random),
         Sort::Reels => play::reels(&mut random),
+        Sort::Lengths => lengths::input(index, &mut random),
     }
 }
 
@@ -120,5 +126,6 @@ pub fn sized(sort: Sort, seed: u64, size: usize) -> Vec<u8> {
         Sort::Limits => limits::sized(size, &mut random),
         Sort::Finishes => finishes::sized(size, &mut random),
         Sort::Reels => play::sized(Style::Reels, size, &mut random),
+        Sort::Lengths => lengths::sized(size, &mut random),
     }
 }

@@ -30,7 +30,7 @@ fn line(version: i32, bytes: &[u8]) -> String {
     format!("{version} {}", hex(bytes))
 }
 
-/// Whole records in both versions, and the same followed by other bytes; then cuts at every length.
+/// Whole records in both versions, and the same followed by other bytes; then cuts at every length; then forms of lengths.
 fn fixed() -> Vec<String> {
     let plain = [plain(), commands(), lengths()].concat();
     let extensions = extensions();
@@ -54,6 +54,7 @@ fn fixed() -> Vec<String> {
     let mut seen = HashSet::new();
     both.chain(plain_cuts)
         .chain(extension_cuts)
+        .chain(length_forms())
         .filter(|line| seen.insert(line.clone()))
         .collect()
 }
@@ -183,6 +184,21 @@ fn lengths() -> Vec<Vec<u8>> {
         list.push(Body::bare().ints(&[MESSAGE, 0]).raw(&form).raw(&[7, 8, 9]));
     }
     done(list)
+}
+
+/// Every form of negative lengths and of 0, each also without its last byte.
+fn length_forms() -> Vec<String> {
+    let mut list = Vec::new();
+    for form in [-1, -65, i32::MIN, 0].into_iter().flat_map(integer::forms) {
+        let cut = &form[..form.len() - 1];
+        for form in [&form[..], cut] {
+            let message = Body::bare().ints(&[MESSAGE, 0]).raw(form);
+            let extension = Body::bare().int(EXTENSION).raw(&[0xab; 16]).raw(form);
+            list.push(line(1, &message.done()));
+            list.push(line(2, &extension.done()));
+        }
+    }
+    list
 }
 
 /// Every form of the telling numbers as fields, and of the kinds.

@@ -27,6 +27,7 @@ pub struct Programs<'a> {
 #[derive(Default)]
 struct Count {
     inputs: u64,
+    negative: u64,
     client: u64,
     too_long: u64,
     differences: u64,
@@ -90,6 +91,7 @@ fn compare_one(program: &str, input: &[u8], origin: &str, total: &mut Count) -> 
     };
     let wanted = expected(input);
     total.inputs += 1;
+    total.negative += u64::from(wanted.text.ends_with("refused 21\n"));
     total.client += u64::from(wanted.left == Some(Left::Client));
     total.too_long += u64::from(wanted.left == Some(Left::TooLong));
     if subject.prints(input, &wanted.text)? {
@@ -104,9 +106,10 @@ fn compare_one(program: &str, input: &[u8], origin: &str, total: &mut Count) -> 
 
 fn summary(seed: u64, parts: &[String], total: &Count) -> String {
     format!(
-        "replay: seed {seed}; {}; {} inputs; left the domain: {} by refused 10, {} by too long; differences: {}",
+        "replay: seed {seed}; {}; {} inputs, of which {} end in refused 21; left the domain: {} by refused 10, {} by too long; differences: {}",
         parts.join(", "),
         total.inputs,
+        total.negative,
         total.client,
         total.too_long,
         total.differences
