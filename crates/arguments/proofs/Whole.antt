@@ -10,6 +10,8 @@ use Rattle.packer.specs.Parts.{shown, readRaw, readData}
 use Rattle.packer.specs.declared.Part.{Part}
 use Rattle.packer.specs.declared.PartRead.{PartRead}
 use Rattle.packer.specs.declared.PartRead.the-variants as parts
+use Rattle.packer.specs.declared.DataRead.{DataRead}
+use Rattle.packer.specs.declared.DataRead.the-variants as blobs
 use Rattle.fields.specs.Fields.{Field, int, str, blob, Value, bytes, Reading, got, runsOut, refused, readField, readFields}
 use Rattle.fields.specs.steps.Sorts.{push, andThen}
 use Rattle.extensions.specs.Extensions.{Payload, shaped, allData, payloadAt, find}
@@ -85,9 +87,10 @@ module _ (w : List ℕ) where
   whole-found id p (Known k) next = whole-payload p k (payloadAt k) next refl
   whole-found id p Unknown next = refl
 
-  whole-data : (id : Part) (x : PartRead) → Whole (afterData w id x)
-  whole-data id (parts.Got p next) = whole-found id p (find (shown w id)) next
-  whole-data id parts.RunsOut = tt
+  whole-data : (id : Part) (x : DataRead) → Whole (afterData w id x)
+  whole-data id (blobs.Got p next) = whole-found id p (find (shown w id)) next
+  whole-data id blobs.RunsOut = tt
+  whole-data id blobs.NegativeLength = tt
 
   whole-id : (x : PartRead) → Whole (afterId w x)
   whole-id (parts.Got id next) = whole-data id (readData w next)

@@ -1,4 +1,4 @@
--- Fields other than dt and the arguments never refuse, so extensions never do. Assumes nothing.
+-- Fields other than dt, data and the arguments never refuse, so the fields in an extension's data never do. Assumes nothing.
 use Prim.Native.Nat.{ℕ}
 use mathlib.Core.Path.{_≡_, refl}
 use mathlib.Core.Bool.{Bool, true, false, false≢true, _&&_}
@@ -9,20 +9,20 @@ use Rattle.refusal.specs.declared.Refusal.{Refusal}
 use Rattle.varint.specs.Integers.{readInt}
 use Rattle.varint.specs.declared.IntRead.{IntRead}
 use Rattle.varint.specs.declared.IntRead.the-variants as ints
-use Rattle.packer.specs.Parts.{shown, readString, readRaw, readData}
+use Rattle.packer.specs.Parts.{readString, readRaw}
 use Rattle.packer.specs.declared.Part.{Part}
 use Rattle.packer.specs.declared.PartRead.{PartRead}
 use Rattle.packer.specs.declared.PartRead.the-variants as parts
 use Rattle.fields.specs.Fields.{Field, int, dt, mask, str, uuid, blob, args, Value, Reading, got, runsOut, refused, readField, readFields}
 use Rattle.fields.specs.steps.Sorts.{intField, maskField, partField, push, andThen}
 use Rattle.fields.proofs.Answers.{and-split}
-use Rattle.extensions.specs.Extensions.{Payload, shaped, allData, extensionRow, payloadAt, all, find}
+use Rattle.extensions.specs.Extensions.{Payload, shaped, allData, extensionRow, payloadAt, all}
 use Rattle.extensions.specs.declared.Extension.{Extension}
 use Rattle.extensions.specs.declared.Found.{Found}
 use Rattle.extensions.specs.declared.Found.the-variants.{Known, Unknown}
 use Rattle.extensions.proofs.Each.{tested}
-use Rattle.item.specs.Records.{Content, asContent, ofPayload, ofFound, readEx}
-use Rattle.item.specs.steps.Reading.{upTo, afterData, afterId}
+use Rattle.item.specs.Records.{Content, asContent, ofPayload, ofFound}
+use Rattle.item.specs.steps.Reading.{upTo}
 use Rattle.item.specs.declared.Tag.{Tag}
 use Rattle.item.specs.declared.Tag.the-variants.{Named}
 
@@ -40,7 +40,7 @@ calm dt = false
 calm mask = true
 calm str = true
 calm uuid = true
-calm blob = true
+calm blob = false
 calm args = false
 
 abbrev pub allCalm : List Field → Bool
@@ -82,7 +82,7 @@ module _ {C : Type 0} {r : Refusal} where
   field-calm mask w at c e = mask-calm (readInt w at) e
   field-calm str w at c e = part-calm (readString w at) e
   field-calm uuid w at c e = part-calm (readRaw 16 w at) e
-  field-calm blob w at c e = part-calm (readData w at) e
+  field-calm blob w at c e = absurd (false≢true c)
   field-calm args w at c e = absurd (false≢true c)
 
   then-calm : {A : Type 0} (x : Reading A) (k : ℕ → Reading (List A)) → (x ≡ refused r → C) → ((n : ℕ) → k n ≡ refused r → C)
@@ -97,7 +97,7 @@ module _ {C : Type 0} {r : Refusal} where
       let o = and-split (calm f) (allCalm fs) c in
       then-calm (readField f w at) (readFields fs w) (λ x. field-calm f w at (o .0) x) (λ n x. fields-calm fs w n (o .1) x) e
 
--- ---- extensions refuse nothing
+-- ---- the data of an extension refuses nothing
 
 abbrev calmLoad : Payload → Bool
 calmLoad (shaped fs) = allCalm fs
@@ -113,18 +113,6 @@ module _ {C : Type 0} {r : Refusal} (w : List ℕ) where
       fields-calm fs (take n w) (p .at) c (as-calm (Named k) (readFields fs (take n w) (p .at)) (upto-calm n _ e))
   payload-calm p k allData n c e = not-got e
 
-  found-calm : (id p : Part) (f : Found) (n : ℕ) → ofFound w id p f n ≡ refused r → C
+  pub found-calm : (id p : Part) (f : Found) (n : ℕ) → ofFound w id p f n ≡ refused r → C
   found-calm id p (Known k) n e = payload-calm p k (payloadAt k) n (load-calm k) e
   found-calm id p Unknown n e = not-got e
-
-  data-calm : (id : Part) (x : PartRead) → afterData w id x ≡ refused r → C
-  data-calm id (parts.Got p n) e = found-calm id p (find (shown w id)) n e
-  data-calm id parts.RunsOut e = not-out e
-
-  id-calm : (x : PartRead) → afterId w x ≡ refused r → C
-  id-calm (parts.Got id n) e = data-calm id (readData w n) e
-  id-calm parts.RunsOut e = not-out e
-
-  pub ex-calm : (at : ℕ) → readEx w at ≡ refused r → C
-  unfolding readEx
-  ex-calm at e = id-calm (readRaw 16 w at) e

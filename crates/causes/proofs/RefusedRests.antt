@@ -1,5 +1,5 @@
--- Which rests of a record are refused: of a TickSkip with a negative dt, of a command with a negative count or a 17th argument. Assumes
--- nothing.
+-- Which rests of a record are refused: of a TickSkip with a negative dt, of a command with a negative count or a 17th argument, of a
+-- message or an extension with a negative length. Assumes nothing.
 use Prim.Native.Nat.{ℕ, zero, suc, _+_, _<_}
 use mathlib.Core.Path.{_≡_, refl, sym, _∙_, subst}
 use mathlib.Core.Bool.{true, false}
@@ -7,7 +7,7 @@ use mathlib.Core.List.{List, [], _∷_, _++_}
 use native.Mathlib.Omega.{arith}
 use lib.ListN.{length, length-append}
 use lib.Dec.{ltb}
-use lib.IntN.{pos, negsuc}
+use lib.IntN.{ℤ, pos, negsuc}
 use borrow.Author.Tests.{lt-ltb, le-ltb}
 use Rattle.refusal.specs.declared.Refusal.{Refusal}
 use Rattle.refusal.specs.declared.Refusal.the-variants.{NegativeNumArgs, NumArgsTooLarge}
@@ -15,20 +15,25 @@ use Rattle.varint.specs.Integers.{readInt}
 use Rattle.varint.specs.declared.Remark.{Remark}
 use Rattle.varint.specs.declared.IntRead.{IntRead}
 use Rattle.varint.specs.declared.IntRead.the-variants as ints
-use Rattle.packer.specs.Parts.{readString}
+use Rattle.packer.specs.Parts.{shown, readRaw, readString, readData}
 use Rattle.packer.specs.declared.Part.{Part}
 use Rattle.packer.specs.declared.PartRead.{PartRead}
 use Rattle.packer.specs.declared.PartRead.the-variants as parts
-use Rattle.fields.specs.Fields.{Field, int, dt, mask, str, blob, args, Value, Reading, got, runsOut, refused, argsFrom, readFields}
-use Rattle.fields.specs.steps.Sorts.{dtField, oneArg, asStrings, argsField, andThen}
+use Rattle.packer.specs.declared.DataRead.{DataRead}
+use Rattle.packer.specs.declared.DataRead.the-variants as blobs
+use Rattle.packer.proofs.Parts.{data-below, below-data}
+use Rattle.fields.specs.Fields.{Field, int, dt, mask, str, blob, args, Value, num, Reading, got, runsOut, refused, argsFrom, readFields}
+use Rattle.fields.specs.steps.Sorts.{intField, dtField, dataField, oneArg, asStrings, argsField, andThen}
 use Rattle.fields.specs.Views.{tenFields}
 use Rattle.fields.proofs.Appended.{prepend, joined, fields-joined}
-use Rattle.item.specs.Records.{asContent, readRest}
+use Rattle.extensions.specs.Extensions.{find}
+use Rattle.item.specs.Records.{asContent, readEx, readRest}
+use Rattle.item.specs.steps.Reading.{afterData, afterId}
 use Rattle.kinds.specs.declared.Kind.{Kind}
 use Rattle.kinds.specs.declared.Kind.the-variants as kinds
 use Rattle.item.specs.declared.Tag.the-variants.{Plain}
-use Rattle.causes.specs.Causes.{Strings, none, one, RestRefused, negativeDt, negativeNumArgs, numArgsTooLarge}
-use Rattle.causes.proofs.Calm.{not-got, not-out, allCalm, push-calm, as-calm, fields-calm, ex-calm}
+use Rattle.causes.specs.Causes.{Strings, none, one, RestRefused, negativeDt, negativeNumArgs, numArgsTooLarge, negativeMessage, negativePayload}
+use Rattle.causes.proofs.Calm.{not-got, not-out, allCalm, push-calm, as-calm, fields-calm, found-calm}
 
 -- ---- arguments: 16 strings were had, and another has been read
 
@@ -80,6 +85,29 @@ module _ (w : List ℕ) (n : ℕ) (r : Refusal) where
   dt-refused (ints.Got (negsuc d) next m) i e = subst (RestRefused w n kinds.TickSkip) (cc) (negativeDt i)
   dt-refused ints.RunsOut i e = not-out e
 
+  -- a message: the data behind its client
+  load-refused : (c : ℤ) (at : ℕ) (m : Remark) → readInt w n ≡ ints.Got c at m → (x : DataRead) → readData w at ≡ x
+      → andThen (dataField x) (readFields [] w) ≡ refused r → RestRefused w n kinds.Message r
+  load-refused c at m i (blobs.Got p next) x e = not-got e
+  load-refused c at m i blobs.RunsOut x e = not-out e
+  load-refused c at m i blobs.NegativeLength x e = subst (RestRefused w n kinds.Message) (cc) (negativeMessage i (data-below w at x))
+
+  message-refused : (i : IntRead) → readInt w n ≡ i → andThen (intField i) (readFields (blob ∷ []) w) ≡ refused r
+      → RestRefused w n kinds.Message r
+  message-refused (ints.Got c at m) i e = load-refused c at m i (readData w at) refl (push-calm (num c) (readFields (blob ∷ []) w at) e)
+  message-refused ints.RunsOut i e = not-out e
+
+  -- an extension: the data behind its identifier
+  payload-refused : (id : Part) (at : ℕ) → readRaw 16 w n ≡ parts.Got id at → (x : DataRead) → readData w at ≡ x → afterData w id x ≡ refused r
+      → RestRefused w n kinds.Ex r
+  payload-refused id at i (blobs.Got p next) x e = found-calm w id p (find (shown w id)) next e
+  payload-refused id at i blobs.RunsOut x e = not-out e
+  payload-refused id at i blobs.NegativeLength x e = subst (RestRefused w n kinds.Ex) (cc) (negativePayload i (data-below w at x))
+
+  id-refused : (x : PartRead) → readRaw 16 w n ≡ x → afterId w x ≡ refused r → RestRefused w n kinds.Ex r
+  id-refused (parts.Got id at) x e = payload-refused id at x (readData w at) refl e
+  id-refused parts.RunsOut x e = not-out e
+
   module _ {vs : List (Value Part)} {at : ℕ} (h : readFields (int ∷ mask ∷ str ∷ []) w n ≡ got vs at) where
     strings-refused : (c next : ℕ) (m : Remark) → readInt w at ≡ ints.Got (pos c) next m → (x : Reading (List Part))
         → argsFrom c w [] next ≡ x → andThen (asStrings x) (readFields [] w) ≡ refused r → RestRefused w n kinds.ConsoleCommand r
@@ -109,7 +137,7 @@ module _ (w : List ℕ) (n : ℕ) (r : Refusal) where
   plain-calm k fs c e = fields-calm fs w n c (as-calm (Plain k) (readFields fs w n) e)
 
   pub rest-refused : (k : Kind) → readRest k w n ≡ refused r → RestRefused w n k r
-  unfolding readRest
+  unfolding readRest readEx
   rest-refused (kinds.PlayerDiff c) e = plain-calm (kinds.PlayerDiff c) (int ∷ int ∷ []) refl e
   rest-refused kinds.Finish e = plain-calm kinds.Finish [] refl e
   rest-refused kinds.TickSkip e = dt-refused (readInt w n) refl (as-calm (Plain kinds.TickSkip) (readFields (dt ∷ []) w n) e)
@@ -117,14 +145,14 @@ module _ (w : List ℕ) (n : ℕ) (r : Refusal) where
   rest-refused (kinds.PlayerOld c) e = plain-calm (kinds.PlayerOld c) [] refl e
   rest-refused kinds.InputDiff e = plain-calm kinds.InputDiff (int ∷ tenFields) refl e
   rest-refused kinds.InputNew e = plain-calm kinds.InputNew (int ∷ tenFields) refl e
-  rest-refused kinds.Message e = plain-calm kinds.Message (int ∷ blob ∷ []) refl e
+  rest-refused kinds.Message e = message-refused (readInt w n) refl (as-calm (Plain kinds.Message) (readFields (int ∷ blob ∷ []) w n) e)
   rest-refused kinds.Join e = plain-calm kinds.Join (int ∷ []) refl e
   rest-refused kinds.Drop e = plain-calm kinds.Drop (int ∷ str ∷ []) refl e
   rest-refused kinds.ConsoleCommand e =
       head-refused (readFields (int ∷ mask ∷ str ∷ []) w n) refl
       (sym (fields-joined (int ∷ mask ∷ str ∷ []) (args ∷ []) w n)
       ∙ as-calm (Plain kinds.ConsoleCommand) (readFields (int ∷ mask ∷ str ∷ args ∷ []) w n) e)
-  rest-refused kinds.Ex e = ex-calm w n e
+  rest-refused kinds.Ex e = id-refused (readRaw 16 w n) refl e
 
 -- and back
 
@@ -138,7 +166,9 @@ unfolding readRest
 command-rest w n {vs} r h e = rw (fields-joined (int ∷ mask ∷ str ∷ []) (args ∷ []) w n, h, e, prepend-refused r vs)
 
 pub refused-rest : {k : Kind} {r : Refusal} (w : List ℕ) (n : ℕ) → RestRefused w n k r → readRest k w n ≡ refused r
-unfolding readRest
+unfolding readRest readEx
 refused-rest w n (negativeDt i) = rw i
 refused-rest w n (negativeNumArgs h i) = command-rest w n NegativeNumArgs (h .read) (rw i)
 refused-rest w n (numArgsTooLarge {c = c} {next} h i l s) = command-rest w n NumArgsTooLarge (h .read) (rw (i, by-args c w [] next 16 refl l s))
+refused-rest w n (negativeMessage {at = at} i b) = rw (i, below-data w at b)
+refused-rest w n (negativePayload {at = at} i b) = rw (i, below-data w at b)

@@ -1,4 +1,4 @@
--- Why the reading of a record's kind or of its rest is refused. docs/FORMAT.md, "What a call may say", 4 to 7.
+-- Why the reading of a record's kind or of its rest is refused. docs/FORMAT.md, "What a call may say", 4 to 7 and 21.
 use Prim.Native.Nat.{ℕ, suc, _<_}
 use mathlib.Core.Path.{_≡_}
 use mathlib.Core.Bool.{true}
@@ -10,7 +10,8 @@ use Rattle.refusal.specs.declared.Refusal.the-variants as refusal
 use Rattle.varint.specs.Integers.{readInt}
 use Rattle.varint.specs.declared.Remark.{Remark}
 use Rattle.varint.specs.declared.IntRead.the-variants as ints
-use Rattle.packer.specs.Parts.{readString}
+use Rattle.packer.specs.Parts.{readRaw, readString}
+use Rattle.packer.specs.Laws.{LengthBelow0}
 use Rattle.packer.specs.declared.Part.{Part}
 use Rattle.packer.specs.declared.PartRead.the-variants as parts
 use Rattle.fields.specs.Fields.{int, mask, str, Value, got, readFields}
@@ -51,6 +52,11 @@ pub data RestRefused (w : List ℕ) (from : ℕ) : Kind → Refusal → Type 0 w
   -- 7: the count is above 16, and a 17th argument string has been read
   numArgsTooLarge : {at c next : ℕ} {remark : Remark} → CountAt w from at → readInt w at ≡ ints.Got (pos c) next remark → 16 < c
       → Strings w 17 next → RestRefused w from kinds.ConsoleCommand refusal.NumArgsTooLarge
+  -- 21: the length of the data has been read, behind the client of a message or the identifier of an extension, and is negative
+  negativeMessage : {c : ℤ} {at : ℕ} {remark : Remark} → readInt w from ≡ ints.Got c at remark → LengthBelow0 w at
+      → RestRefused w from kinds.Message refusal.NegativeLength
+  negativePayload : {id : Part} {at : ℕ} → readRaw 16 w from ≡ parts.Got id at → LengthBelow0 w at
+      → RestRefused w from kinds.Ex refusal.NegativeLength
 
 -- a record at the start of a window
 pub data RecordRefused (v : Version) (w : List ℕ) : Refusal → Type 0 where

@@ -3,8 +3,9 @@ use Prim.Native.Nat.{ℕ}
 use mathlib.Core.Path.{_≡_, refl, _∙_, ap}
 use mathlib.Core.List.{List}
 use lib.ListN.{take}
+use Rattle.refusal.specs.declared.Refusal.the-variants as refusals
 use Rattle.packer.specs.declared.Part.{Part}
-use Rattle.fields.specs.Fields.{Value, Reading, got, runsOut, readFields}
+use Rattle.fields.specs.Fields.{Value, Reading, got, runsOut, refused, readFields}
 use Rattle.shapes.specs.steps.Shapes.{fieldsIn, viewed}
 use Rattle.shapes.specs.declared.Shape.{Shape}
 use Rattle.shapes.specs.declared.FieldsRead.{FieldsRead}
@@ -20,11 +21,13 @@ use Rattle.extension_records.specs.steps.Views.{exContent}
 abbrev pub ofShape : Extension → Payload → ℕ → FieldsRead → Reading (Content Part)
 ofShape k p next (read.Got f past) = got (exContent k p f) next
 ofShape k p next read.RunsOut = runsOut
+ofShape k p next read.NegativeLength = refused refusals.NegativeLength
 
 up : (k : Extension) (next : ℕ) (shape : Shape) (x : FieldsRead)
     → ofShape k (shaped (fieldsIn shape)) next x ≡ upTo next (asContent (Named k) (viewed shape x))
 up k next shape (read.Got f past) = refl
 up k next shape read.RunsOut = refl
+up k next shape read.NegativeLength = refl
 
 pub shaped-payload : (s : List ℕ) (load : Part) (k : Extension) (p : Payload) (next : ℕ) (shape : Shape) (x : FieldsRead)
     → shaped (fieldsIn shape) ≡ p → viewed shape x ≡ readFields (fieldsIn shape) (take next s) (load .at)

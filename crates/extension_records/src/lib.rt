@@ -3,24 +3,27 @@ ghost use mathlib.Core.Path.{_≡_};
 ghost use Prim.Native.Nat.{_≤_};
 ghost use lib.IntN.{pos};
 ghost use lib.ListN.{length};
-ghost use Rattle.shapes.specs.steps.Shapes.{fieldsWith};
-ghost use Rattle.extensions.specs.Extensions.{payloadAt};
-ghost use Rattle.item.specs.Records.{ofPayload, readEx};
+ghost use Rattle.packer.specs.Parts.{shown};
+ghost use Rattle.shapes.specs.steps.Shapes.{idPart, fieldsWith};
+ghost use Rattle.extensions.specs.Extensions.{find, payloadAt};
+ghost use Rattle.item.specs.Records.{ofPayload, ofFound, readEx};
 ghost use Rattle.item.specs.Contents.{itemOf};
 ghost use Rattle.extension_records.specs.steps.Views.{exIs, exContent};
 use extensions::Extension;
 use extensions::Found;
 use extensions::Layout;
 use item::Item;
+use packer::DataRead;
 use packer::Part;
 use packer::PartRead;
 use shapes::Fields;
 use shapes::FieldsRead;
 
-// An extension and the place past it; none is refused.
+// An extension and the place past it; or that the bytes run out; or that the length of its data has been read and is below 0.
 pub enum ExRead {
     Got { item: Item, next: usize },
     RunsOut,
+    NegativeLength,
 }
 
 // The record of an extension, of its fields; where all the data is one field, it is the text.
@@ -118,17 +121,36 @@ fn read_payload(s: &[u8], which: Extension, load: Part, next: usize) -> ExRead
     match layout {
         Layout::Shaped(shape) => {
             let start = load.at;
-            let FieldsRead::Got { fields, next: _ } = shapes::read_shape(shape, &s[..next], start)
-            else {
-                return ExRead::RunsOut;
-            };
-            ExRead::Got {
-                item: ex_item(which, fields),
-                next,
+            let read = shapes::read_shape(shape, &s[..next], start);
+            match read {
+                FieldsRead::Got { fields, next: _ } => ExRead::Got {
+                    item: ex_item(which, fields),
+                    next,
+                },
+                FieldsRead::RunsOut => ExRead::RunsOut,
+                FieldsRead::NegativeLength => ExRead::NegativeLength,
             }
         }
         Layout::Whole => ExRead::Got {
             item: ex_item(which, data_fields(load)),
+            next,
+        },
+    }
+}
+
+// The record of the identifier at a place, whose data is load, which ends at next.
+fn read_found(s: &[u8], at: usize, load: Part, next: usize) -> ExRead
+    requires { ⌜ next ≤ length (now s) ⌝ }
+    ensures { λ r. ⌜ exIs r ≡ ofFound (now (s .entry)) (idPart at) load (find (shown (now (s .entry)) (idPart at))) next ⌝ }
+{
+    let found = ids::find_id(s, at);
+    match found {
+        Found::Known(which) => read_payload(s, which, load, next),
+        Found::Unknown => ExRead::Got {
+            item: Item::UnknownEx {
+                uuid: at,
+                data: load,
+            },
             next,
         },
     }
@@ -145,18 +167,10 @@ pub fn read_ex(s: &[u8], at: usize) -> ExRead
     else {
         return ExRead::RunsOut;
     };
-    let PartRead::Got { part: load, next } = packer::read_data(s, after_id) else {
-        return ExRead::RunsOut;
-    };
-    let found = ids::find_id(s, at);
-    match found {
-        Found::Known(which) => read_payload(s, which, load, next),
-        Found::Unknown => ExRead::Got {
-            item: Item::UnknownEx {
-                uuid: at,
-                data: load,
-            },
-            next,
-        },
+    let read = packer::read_data(s, after_id);
+    match read {
+        DataRead::Got { part: load, next } => read_found(s, at, load, next),
+        DataRead::RunsOut => ExRead::RunsOut,
+        DataRead::NegativeLength => ExRead::NegativeLength,
     }
 }

@@ -13,10 +13,12 @@ use Rattle.varint.specs.declared.IntRead.{IntRead}
 use Rattle.varint.specs.declared.IntRead.the-variants as ints
 use Rattle.varint.proofs.Theorems.{int-steady}
 use Rattle.packer.specs.Parts.{readRaw, readString, readData}
-use Rattle.packer.specs.Laws.{partOut}
+use Rattle.packer.specs.Laws.{partOut, dataOut}
 use Rattle.packer.specs.declared.Part.{Part}
 use Rattle.packer.specs.declared.PartRead.{PartRead}
 use Rattle.packer.specs.declared.PartRead.the-variants as parts
+use Rattle.packer.specs.declared.DataRead.{DataRead}
+use Rattle.packer.specs.declared.DataRead.the-variants as blobs
 use Rattle.packer.proofs.Theorems.{string-steady, data-steady, raw-steady}
 use Rattle.fields.specs.Fields.{
   Field,
@@ -36,7 +38,7 @@ use Rattle.fields.specs.Fields.{
   readField,
   readFields,
 }
-use Rattle.fields.specs.steps.Sorts.{intField, dtField, maskField, partField, oneArg, asStrings, argsField, push, andThen}
+use Rattle.fields.specs.steps.Sorts.{intField, dtField, maskField, partField, dataField, oneArg, asStrings, argsField, push, andThen}
 use Rattle.fields.specs.Laws.{isOut}
 
 -- ---- what an answer tells of the reading that it goes on from
@@ -49,6 +51,11 @@ module _ {A : Type 0} where
   part-had : (k : PartRead → Reading A) → k parts.RunsOut ≡ runsOut → (x : PartRead) → isOut (k x) ≡ false → partOut x ≡ false
   part-had k out (parts.Got p next) e = refl
   part-had k out parts.RunsOut e = sym (ap isOut out) ∙ e
+
+  data-had : (k : DataRead → Reading A) → k blobs.RunsOut ≡ runsOut → (x : DataRead) → isOut (k x) ≡ false → dataOut x ≡ false
+  data-had k out (blobs.Got p next) e = refl
+  data-had k out blobs.RunsOut e = sym (ap isOut out) ∙ e
+  data-had k out blobs.NegativeLength e = refl
 
   push-had : (v : A) (y : Reading (List A)) → isOut (push v y) ≡ isOut y
   push-had v (got vs next) = refl
@@ -107,7 +114,7 @@ field-steady dt s t at e = by-int dtField refl s t at e
 field-steady mask s t at e = by-int maskField refl s t at e
 field-steady str s t at e = by-part readString (string-steady .0) s t at e
 field-steady uuid s t at e = by-part (readRaw 16) (raw-steady 16 .0) s t at e
-field-steady blob s t at e = by-part readData (data-steady .0) s t at e
+field-steady blob s t at e = ap dataField (data-steady .0 s t at (data-had dataField refl (readData s at) e))
 field-steady args s t at e =
     rw (int-steady .0 s t at (int-had (argsField s) refl (readInt s at) e)) (after-steady s t (readInt s at) e)
 

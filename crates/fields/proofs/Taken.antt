@@ -24,6 +24,8 @@ use Rattle.packer.specs.Parts.{shown, readRaw, readString, readData}
 use Rattle.packer.specs.declared.Part.{Part}
 use Rattle.packer.specs.declared.PartRead.{PartRead}
 use Rattle.packer.specs.declared.PartRead.the-variants as parts
+use Rattle.packer.specs.declared.DataRead.{DataRead}
+use Rattle.packer.specs.declared.DataRead.the-variants as blobs
 use Rattle.packer.proofs.Parts as part-laws
 use Rattle.fields.specs.Fields.{
   Field,
@@ -46,7 +48,7 @@ use Rattle.fields.specs.Fields.{
   readField,
   mean,
 }
-use Rattle.fields.specs.steps.Sorts.{intField, dtField, maskField, partField, asStrings, argsField, allNoZero}
+use Rattle.fields.specs.steps.Sorts.{intField, dtField, maskField, partField, dataField, asStrings, argsField, allNoZero}
 use Rattle.fields.specs.Remarks.{remarkIn, fieldRemark}
 use Rattle.fields.specs.Writing.{writeField, stringsBytes}
 use Rattle.fields.specs.steps.Sorts.{valueInside}
@@ -135,7 +137,7 @@ module _ (s : List ℕ) (at : ℕ) (h : at ≤ length s) where
         whole = λ b r. w .0 .0;
       }
 
-  data-taken : (p : Part) (m : ℕ) → readData s at ≡ parts.Got p m → Taken blob s at (bytes p) m
+  data-taken : (p : Part) (m : ℕ) → readData s at ≡ blobs.Got p m → Taken blob s at (bytes p) m
   data-taken p m e =
       let g = part-laws.data-taken s at m p e in
       let q = part-laws.data-got s at m p e in
@@ -194,6 +196,11 @@ module _ (s : List ℕ) (at : ℕ) (h : at ≤ length s) where
   part-by f (parts.Got p m) g v next e = same-got (Taken f s at) e (g p m refl)
   part-by f parts.RunsOut g v next e = not-out e
 
+  data-by : (x : DataRead) → readData s at ≡ x → (v : Value Part) (next : ℕ) → dataField x ≡ got v next → Taken blob s at v next
+  data-by (blobs.Got p m) e v next g = same-got (Taken blob s at) g (data-taken p m e)
+  data-by blobs.RunsOut e v next g = not-out g
+  data-by blobs.NegativeLength e v next g = not-refused g
+
   strings-by : (x : Reading (List Part)) → ((ps : List Part) (m : ℕ) → x ≡ got ps m → Taken args s at (strings ps) m) → (v : Value Part) (next : ℕ)
       → asStrings x ≡ got v next → Taken args s at v next
   strings-by (got ps m) g v next e = same-got (Taken args s at) e (g ps m refl)
@@ -211,5 +218,5 @@ module _ (s : List ℕ) (at : ℕ) (h : at ≤ length s) where
   field-taken mask v next e = mask-by (readInt s at) refl v next e
   field-taken str v next e = part-by str (readString s at) string-taken v next e
   field-taken uuid v next e = part-by uuid (readRaw 16 s at) uuid-taken v next e
-  field-taken blob v next e = part-by blob (readData s at) data-taken v next e
+  field-taken blob v next e = data-by (readData s at) refl v next e
   field-taken args v next e = args-by (readInt s at) refl v next e

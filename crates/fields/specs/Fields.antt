@@ -8,7 +8,7 @@ use lib.IntN.{ℤ, pos, negsuc}
 use mir.Syntax.{w32}
 use mir.Val.{ofZ}
 use Rattle.refusal.specs.declared.Refusal.{Refusal}
-use Rattle.refusal.specs.declared.Refusal.the-variants.{NegativeDt, NegativeNumArgs, NumArgsTooLarge}
+use Rattle.refusal.specs.declared.Refusal.the-variants.{NegativeDt, NegativeNumArgs, NumArgsTooLarge, NegativeLength}
 use Rattle.varint.specs.Integers.{readInt}
 use Rattle.varint.specs.declared.IntRead.{IntRead}
 use Rattle.varint.specs.declared.IntRead.the-variants as ints
@@ -16,6 +16,8 @@ use Rattle.packer.specs.Parts.{shown, readRaw, readString, readData}
 use Rattle.packer.specs.declared.Part.{Part}
 use Rattle.packer.specs.declared.PartRead.{PartRead}
 use Rattle.packer.specs.declared.PartRead.the-variants as parts
+use Rattle.packer.specs.declared.DataRead.{DataRead}
+use Rattle.packer.specs.declared.DataRead.the-variants as blobs
 
 -- the sorts of field: a number; dt, which isn't negative; a flag mask, whose 32 bits are taken unsigned; a string; 16 bytes; data;
 -- a count and that many strings
@@ -70,6 +72,12 @@ abbrev pub withPart : {B : Type 0} → PartRead → (Part → ℕ → Reading B)
 withPart (parts.Got p next) k = k p next
 withPart parts.RunsOut k = runsOut
 
+-- data of a negative length is refused 21
+abbrev pub withData : {B : Type 0} → DataRead → (Part → ℕ → Reading B) → Reading B
+withData (blobs.Got p next) k = k p next
+withData blobs.RunsOut k = runsOut
+withData blobs.NegativeLength k = refused NegativeLength
+
 -- a number that isn't negative, or else a refusal
 abbrev pub withNatural : {B : Type 0} → Refusal → ℤ → (ℕ → Reading B) → Reading B
 withNatural r (pos n) k = k n
@@ -89,7 +97,7 @@ readField dt s at = withInt (readInt s at) (λ z next. withNatural NegativeDt z 
 readField mask s at = withInt (readInt s at) (λ z. got (num (pos (ofZ w32 z))))
 readField str s at = withPart (readString s at) (λ p. got (bytes p))
 readField uuid s at = withPart (readRaw 16 s at) (λ p. got (bytes p))
-readField blob s at = withPart (readData s at) (λ p. got (bytes p))
+readField blob s at = withData (readData s at) (λ p. got (bytes p))
 readField args s at =
     withInt (readInt s at) (λ z next. withNatural NegativeNumArgs z (λ n. withGot (argsFrom n s [] next) (λ ps. got (strings ps))))
 

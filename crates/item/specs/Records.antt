@@ -16,6 +16,7 @@ use Rattle.fields.specs.Fields.{
   refused,
   withGot,
   withPart,
+  withData,
   readFields,
   mean,
 }
@@ -69,7 +70,7 @@ ofFound s id p Unknown next = got (content Other (bytes id ∷ bytes p ∷ [])) 
 
 -- an extension: 16 bytes of identifier, then data
 unfoldable pub readEx : List ℕ → ℕ → Reading (Content Part)
-readEx s at = withPart (readRaw 16 s at) (λ id n. withPart (readData s n) (λ p next. ofFound s id p (find (shown s id)) next))
+readEx s at = withPart (readRaw 16 s at) (λ id n. withData (readData s n) (λ p next. ofFound s id p (find (shown s id)) next))
 
 abbrev pub readAs : List ℕ → Kind → Rest → ℕ → Reading (Content Part)
 readAs s kind (fields fs gs) at = asContent (Plain kind) (readFields (fs ++ gs) s at)
@@ -83,7 +84,7 @@ readRest kind s at = readAs s kind (restOf kind) at
 unfoldable pub readRecord : Version → List ℕ → ℕ → Reading (Content Part)
 readRecord v s at = withGot (readKind v s at) (λ k. readRest k s)
 
--- the record call: the record with the bytes used, more, or 3 to 7
+-- the record call: the record with the bytes used, more, or 3 to 7 or 21
 abbrev pub recordSaid : Bool → Reading (Content Part) → Said (Content Part)
 recordSaid last (got c next) = gives c next
 recordSaid last runsOut = outOfBytes last

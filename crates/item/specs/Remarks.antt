@@ -6,7 +6,7 @@ use Rattle.varint.specs.Integers.{readInt}
 use Rattle.varint.specs.declared.IntRead.{IntRead}
 use Rattle.packer.specs.Parts.{shown, readRaw, readData}
 use Rattle.packer.specs.declared.Part.{Part}
-use Rattle.fields.specs.Fields.{got, withInt, withPart, readFields}
+use Rattle.fields.specs.Fields.{got, withInt, withPart, withData, readFields}
 use Rattle.fields.specs.Remarks.{remarkIn, ifGot, remarks}
 use Rattle.kinds.specs.Kinds.{readKind, byClient, kindRow}
 use Rattle.kinds.specs.declared.Kind.{Kind}
@@ -27,7 +27,7 @@ foundRemarks s p Unknown next = 0
 unfoldable pub exRemarks : List ℕ → ℕ → ℕ
 exRemarks s at =
     ifGot (withPart (readRaw 16 s at) got)
-    (λ id n. remarkIn (readInt s n) + ifGot (withPart (readData s n) got) (λ p next. foundRemarks s p (find (shown s id)) next))
+    (λ id n. remarkIn (readInt s n) + ifGot (withData (readData s n) got) (λ p next. foundRemarks s p (find (shown s id)) next))
 
 abbrev pub restRemarks : List ℕ → Rest → ℕ → ℕ
 restRemarks s (fields fs gs) at = remarks (fs ++ gs) s at

@@ -20,12 +20,14 @@ use Rattle.varint.specs.declared.IntRead.{IntRead}
 use Rattle.varint.specs.declared.IntRead.the-variants as ints
 use Rattle.varint.proofs.Prefix.{int-whole, int-fits}
 use Rattle.varint.proofs.Theorems.{int-steady}
-use Rattle.packer.specs.Parts.{part, shown, readRaw, stringFrom, readString, dataAfter, readData}
+use Rattle.packer.specs.Parts.{part, shown, readRaw, stringFrom, readString, asData, dataAfter, readData}
 use Rattle.packer.specs.Texts.{noZero, stringBytes, isData, dataBytes}
-use Rattle.packer.specs.Laws.{Used}
+use Rattle.packer.specs.Laws.{Used, LengthBelow0}
 use Rattle.packer.specs.declared.Part.{Part}
 use Rattle.packer.specs.declared.PartRead.{PartRead}
 use Rattle.packer.specs.declared.PartRead.the-variants.{Got, RunsOut}
+use Rattle.packer.specs.declared.DataRead.{DataRead}
+use Rattle.packer.specs.declared.DataRead.the-variants as blobs
 use Rattle.packer.proofs.Reading.{raw-fits, shown-in}
 use Rattle.packer.proofs.Places.{past, past-within, string-at, string-shown}
 
@@ -55,9 +57,9 @@ module _ (s : List ℕ) (at n : ℕ) (h : at + n ≤ length s) where
       ∙ sym (shown-in s at n h)
 
 -- a part that was read: the place past it is within the window, and what follows changes neither the answer nor what the part shows
-pub record Taken (read : List ℕ → ℕ → PartRead) (s : List ℕ) (at : ℕ) (p : Part) (next : ℕ) : Type 0 where
+pub record Taken {A : Type 0} (got : Part → ℕ → A) (read : List ℕ → ℕ → A) (s : List ℕ) (at : ℕ) (p : Part) (next : ℕ) : Type 0 where
   pub within : next ≤ length s
-  pub steady : (t : List ℕ) → read (s ++ t) at ≡ Got p next
+  pub steady : (t : List ℕ) → read (s ++ t) at ≡ got p next
   pub shows : (t : List ℕ) → shown (s ++ t) p ≡ shown s p
 
 -- ---- raw bytes
@@ -70,7 +72,7 @@ raw-got n s at next p e =
     (λ t. let q : RunsOut ≡ Got p next = rw t at e in let z : _≡_ {A = ℕ} 0 1 = cc in absurd (omega arith))
 
 module _ (n : ℕ) (s : List ℕ) (at next : ℕ) (p : Part) (e : readRaw n s at ≡ Got p next) where
-  pub raw-taken : Taken (readRaw n) s at p next
+  pub raw-taken : Taken Got (readRaw n) s at p next
   raw-taken =
       let g = raw-got n s at next p e in
       rw (g .1 .0, g .1 .1) (record {
@@ -144,7 +146,7 @@ string-got s at next p e =
     }
 
 module _ (s text after : List ℕ) (at : ℕ) (clean : noZero text ≡ true) (bytes : drop at s ≡ stringBytes text ++ after) (start : at ≤ length s) where
-  text-taken : Taken readString s at (part at (length text)) (at + length (stringBytes text))
+  text-taken : Taken Got readString s at (part at (length text)) (at + length (stringBytes text))
   text-taken =
       let w = stringBytes text in
       let h = past-within s w after at bytes start in
@@ -163,7 +165,7 @@ module _ (s text after : List ℕ) (at : ℕ) (clean : noZero text ≡ true) (by
       ((rw (past s (stringBytes text) after at bytes) bytes, refl), clean)
 
 module _ (s : List ℕ) (at next : ℕ) (p : Part) (e : readString s at ≡ Got p next) where
-  pub string-taken : Taken readString s at p next
+  pub string-taken : Taken Got readString s at p next
   string-taken =
       let g = string-got s at next p e in
       rw (← g .same, ← g .place) at (text-taken s (g .text) (g .after) at (g .clean) (g .bytes) (g .start))
@@ -182,19 +184,23 @@ pub record Body (s : List ℕ) (at next : ℕ) (p : Part) : Type 0 where
   pub within : p .at + p .len ≤ length s
   pub place : next ≡ p .at + p .len
 
-body-got : (s : List ℕ) (at next : ℕ) (p : Part) (i : IntRead) → readInt s at ≡ i → dataAfter s i ≡ Got p next → Body s at next p
+raw-data : (x : PartRead) (p : Part) (next : ℕ) → asData x ≡ blobs.Got p next → x ≡ Got p next
+raw-data (Got q m) p next e = let same : q ≡ p = cc in let place : m ≡ next = cc in rw (same, place)
+raw-data RunsOut p next e = let z : _≡_ {A = ℕ} 0 1 = cc in absurd (omega arith)
+
+body-got : (s : List ℕ) (at next : ℕ) (p : Part) (i : IntRead) → readInt s at ≡ i → dataAfter s i ≡ blobs.Got p next → Body s at next p
 body-got s at next p (ints.Got (pos n) m k) e d =
-    let g = raw-got n s m next p d in
+    let g = raw-got n s m next p (raw-data (readRaw n s m) p next d) in
     rw (g .1 .0) (record { remark = k; reads = e; within = g .0; place = g .1 .1 })
 body-got s at next p (ints.Got (negsuc n) m k) e d = let z : _≡_ {A = ℕ} 0 1 = cc in absurd (omega arith)
 body-got s at next p ints.RunsOut e d = let z : _≡_ {A = ℕ} 0 1 = cc in absurd (omega arith)
 
-module _ (s : List ℕ) (at next : ℕ) (p : Part) (e : readData s at ≡ Got p next) where
+module _ (s : List ℕ) (at next : ℕ) (p : Part) (e : readData s at ≡ blobs.Got p next) where
   pub data-got : Body s at next p
   unfolding readData
   data-got = body-got s at next p (readInt s at) refl e
 
-  pub data-taken : Taken readData s at p next
+  pub data-taken : Taken blobs.Got readData s at p next
   unfolding readData
   data-taken =
       let g = data-got in
@@ -203,7 +209,7 @@ module _ (s : List ℕ) (at next : ℕ) (p : Part) (e : readData s at ≡ Got p 
         steady =
             λ t.
             rw (int-steady .0 s t at (ap intOut (g .reads)) ∙ g .reads)
-            (raw-fits (s ++ t) (p .at) (p .len) (omega (arith, length-append s t, g .within)) ∙ rw (g .place));
+            (ap asData (raw-fits (s ++ t) (p .at) (p .len) (omega (arith, length-append s t, g .within))) ∙ rw (g .place));
         shows = shown-more s (p .at) (p .len) (g .within);
       }
 
@@ -225,3 +231,27 @@ module _ (s : List ℕ) (at next : ℕ) (p : Part) (e : readData s at ≡ Got p 
         ),
         le-leb (p .len) 2147483647 (omega (arith, f .sfits)),
       )
+
+-- ---- data of a negative length
+
+module _ (s : List ℕ) (at : ℕ) where
+  below-raw : (x : PartRead) → asData x ≡ blobs.NegativeLength → LengthBelow0 s at
+  below-raw (Got p next) e = let z : _≡_ {A = ℕ} 0 1 = cc in absurd (omega arith)
+  below-raw RunsOut e = let z : _≡_ {A = ℕ} 0 1 = cc in absurd (omega arith)
+
+  below-after : (i : IntRead) → readInt s at ≡ i → dataAfter s i ≡ blobs.NegativeLength → LengthBelow0 s at
+  below-after (ints.Got (pos n) m k) e d = below-raw (readRaw n s m) d
+  below-after (ints.Got (negsuc n) m k) e d = record { n = n; next = m; remark = k; read = e }
+  below-after ints.RunsOut e d = let z : _≡_ {A = ℕ} 0 1 = cc in absurd (omega arith)
+
+  pub data-below : readData s at ≡ blobs.NegativeLength → LengthBelow0 s at
+  unfolding readData
+  data-below e = below-after (readInt s at) refl e
+
+  pub below-data : LengthBelow0 s at → readData s at ≡ blobs.NegativeLength
+  unfolding readData
+  below-data g = rw (g .read)
+
+  pub below-steady : LengthBelow0 s at → (t : List ℕ) → LengthBelow0 (s ++ t) at
+  below-steady g t =
+      record { n = g .n; next = g .next; remark = g .remark; read = int-steady .0 s t at (ap intOut (g .read)) ∙ g .read }

@@ -13,9 +13,10 @@ use Rattle.varint.specs.Integers.{readInt}
 use Rattle.varint.specs.declared.Remark.the-variants.{None}
 use Rattle.varint.specs.declared.IntRead.the-variants as ints
 use Rattle.varint.proofs.Prefix.{canonical-at}
-use Rattle.packer.specs.Parts.{part, shown, readRaw, stringFrom, readString, readData}
+use Rattle.packer.specs.Parts.{part, shown, readRaw, stringFrom, readString, asData, readData}
 use Rattle.packer.specs.Texts.{noZero, stringBytes, isData, dataBytes}
 use Rattle.packer.specs.declared.PartRead.the-variants.{Got}
+use Rattle.packer.specs.declared.DataRead.the-variants as blobs
 use Rattle.packer.proofs.Reading.{raw-fits, shown-in}
 use Rattle.packer.proofs.Texts.{no-zero-head, lead}
 
@@ -67,11 +68,11 @@ module _ (s b rest : List ℕ) (at : ℕ) (small : isData b ≡ true) (e : drop 
     body-within : at + length (lead b) ≤ length s
     body-within = past-within s (lead b) (b ++ rest) at data-parts h
 
-    pub data-at : readData s at ≡ Got (part (at + length (lead b)) (length b)) (at + length (dataBytes b))
+    pub data-at : readData s at ≡ blobs.Got (part (at + length (lead b)) (length b)) (at + length (dataBytes b))
     unfolding readData
     data-at =
         let q : at + length (lead b) + length b ≡ at + length (dataBytes b) = omega (arith, length-append (lead b) b) in
-        rw length-at (raw-at s b rest (at + length (lead b)) body-at body-within ∙ rw q)
+        rw length-at (ap asData (raw-at s b rest (at + length (lead b)) body-at body-within) ∙ rw q)
 
     pub data-shown : shown s (part (at + length (lead b)) (length b)) ≡ b
     data-shown = shown-at s b rest (at + length (lead b)) body-at body-within

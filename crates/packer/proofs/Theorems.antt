@@ -17,7 +17,9 @@ use Rattle.packer.specs.Laws.{
   StringReadsWritten,
   DataReadsWritten,
   RawReadsWritten,
+  DataNegative,
   partOut,
+  dataOut,
   StringSteady,
   DataSteady,
   RawSteady,
@@ -25,8 +27,10 @@ use Rattle.packer.specs.Laws.{
 use Rattle.packer.specs.declared.Part.{Part}
 use Rattle.packer.specs.declared.PartRead.{PartRead}
 use Rattle.packer.specs.declared.PartRead.the-variants.{Got, RunsOut}
+use Rattle.packer.specs.declared.DataRead.{DataRead}
+use Rattle.packer.specs.declared.DataRead.the-variants as blobs
 use Rattle.packer.proofs.Places.{shown-at, raw-at, string-at, string-shown, data-at, data-shown}
-use Rattle.packer.proofs.Parts.{used, raw-taken, raw-whole, string-taken, string-whole, data-taken, data-whole}
+use Rattle.packer.proofs.Parts.{used, raw-taken, raw-whole, string-taken, string-whole, data-taken, data-whole, data-below, below-data, below-steady}
 
 -- w stands between two lists
 module _ (before w after : List ℕ) where
@@ -82,8 +86,18 @@ module _ (read : List ℕ → ℕ → PartRead)
 pub string-steady : StringSteady
 string-steady = both readString (λ s at next p e. string-taken s at next p e .steady)
 
+pub data-negative : DataNegative
+data-negative s at = (data-below s at, below-data s at)
+
+data-stays : (s t : List ℕ) (at : ℕ) (x : DataRead) → readData s at ≡ x → dataOut x ≡ false → readData (s ++ t) at ≡ x
+data-stays s t at (blobs.Got p next) e b = data-taken s at next p e .steady t
+data-stays s t at blobs.RunsOut e b = let z : _≡_ {A = ℕ} 0 1 = cc in absurd (omega arith)
+data-stays s t at blobs.NegativeLength e b = below-data (s ++ t) at (below-steady s at (data-below s at e) t)
+
 pub data-steady : DataSteady
-data-steady = both readData (λ s at next p e. data-taken s at next p e .steady)
+data-steady =
+    let steady : Steady dataOut readData = λ s t at b. data-stays s t at (readData s at) refl b in
+    (steady, shorter dataOut readData steady)
 
 pub raw-steady : RawSteady
 raw-steady n = both (readRaw n) (λ s at next p e. raw-taken n s at next p e .steady)

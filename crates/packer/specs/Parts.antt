@@ -11,6 +11,8 @@ use Rattle.varint.specs.declared.IntRead.the-variants as ints
 use Rattle.packer.specs.declared.Part.{Part}
 use Rattle.packer.specs.declared.PartRead.{PartRead}
 use Rattle.packer.specs.declared.PartRead.the-variants.{Got, RunsOut}
+use Rattle.packer.specs.declared.DataRead.{DataRead}
+use Rattle.packer.specs.declared.DataRead.the-variants as blobs
 
 abbrev pub part : ℕ → ℕ → Part
 part at len = record { at = at; len = len }
@@ -32,15 +34,20 @@ stringFrom (b ∷ s) at n = cond (eqb b 0) (Got (part at n) (at + n + 1)) (strin
 unfoldable pub readString : List ℕ → ℕ → PartRead
 readString s at = stringFrom (drop at s) at 0
 
--- data of a length; a negative length counts as running out
-abbrev pub dataOf : List ℕ → ℤ → ℕ → PartRead
-dataOf s (pos n) next = readRaw n s next
-dataOf s (negsuc n) next = RunsOut
+-- so many bytes, as data
+abbrev pub asData : PartRead → DataRead
+asData (Got p next) = blobs.Got p next
+asData RunsOut = blobs.RunsOut
 
-abbrev pub dataAfter : List ℕ → IntRead → PartRead
+-- data of a length, which may be below 0
+abbrev pub dataOf : List ℕ → ℤ → ℕ → DataRead
+dataOf s (pos n) next = asData (readRaw n s next)
+dataOf s (negsuc n) next = blobs.NegativeLength
+
+abbrev pub dataAfter : List ℕ → IntRead → DataRead
 dataAfter s (ints.Got z next remark) = dataOf s z next
-dataAfter s ints.RunsOut = RunsOut
+dataAfter s ints.RunsOut = blobs.RunsOut
 
 -- data is an integer length, then the bytes
-unfoldable pub readData : List ℕ → ℕ → PartRead
+unfoldable pub readData : List ℕ → ℕ → DataRead
 readData s at = dataAfter s (readInt s at)

@@ -15,6 +15,13 @@ pub enum PartRead {
     RunsOut,
 }
 
+// Data that was read, as a part; or that the bytes run out; or that its length has been read and is below 0.
+pub enum DataRead {
+    Got { part: Part, next: usize },
+    RunsOut,
+    NegativeLength,
+}
+
 // The part's bytes; none where it reaches outside the window.
 pub fn show(s: &[u8], p: Part) -> &[u8]
     ensures { λ r. ⌜ now r ≡ shown (now (s .entry)) p ⌝ }
@@ -62,19 +69,22 @@ pub fn read_string(s: &[u8], at: usize) -> PartRead
     PartRead::RunsOut
 }
 
-pub fn read_data(s: &[u8], at: usize) -> PartRead
+pub fn read_data(s: &[u8], at: usize) -> DataRead
     ensures { λ r. ⌜ r ≡ readData (now (s .entry)) at ⌝ }
 {
     let IntRead::Got {
         value,
-        next,
+        next: at_part,
         remark: _,
     } = varint::read_int(s, at)
     else {
-        return PartRead::RunsOut;
+        return DataRead::RunsOut;
     };
     if value < 0 {
-        return PartRead::RunsOut;
+        return DataRead::NegativeLength;
     }
-    read_raw(s, next, value as usize)
+    let PartRead::Got { part, next } = read_raw(s, at_part, value as usize) else {
+        return DataRead::RunsOut;
+    };
+    DataRead::Got { part, next }
 }

@@ -47,7 +47,7 @@ pub data Refuses (s : Scalars) (e : Entries) (w : List ℕ) (last : Bool) : Refu
   unexpectedEnd : last ≡ true → BytesRunOut s w → Refuses s e w last refusal.UnexpectedEnd (closed s e)
   -- 4: a kind is read, none being pending, and it is unknown
   inKind : {r : Refusal} → s .pending ≡ NoKind → KindRefused (s .version) w 0 r → Refuses s e w last r (closed s e)
-  -- 5 to 7: the rest of a record that may be read is refused
+  -- 5 to 7 and 21: the rest of a record that may be read is refused
   inRest : {k : Kind} {n : ℕ} {r : Refusal} → HadKind s w k n → MayRead s k → RestRefused w n k r → Refuses s e w last r (closed s e)
   -- 8: a negative client in PlayerNew or PlayerOld, in InputDiff or InputNew
   invalidPlayer : {k : Kind} {c n : ℕ} {r : Content Part} → Had s w k r n → NewOrOld k (negsuc c) → MayCome s (negsuc c)

@@ -19,5 +19,5 @@ write-determined = determined.write-determined
 pub record-refuses : laws.RecordRefuses
 record-refuses = refusals.record-refuses
 
-pub three-to-seven : laws.ThreeToSeven
-three-to-seven = refusals.three-to-seven
+pub three-to-seven-or-21 : laws.ThreeToSevenOr21
+three-to-seven-or-21 = refusals.three-to-seven-or-21

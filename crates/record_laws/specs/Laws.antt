@@ -4,7 +4,7 @@ use Prim.Native.Nat.{ℕ, _+_, _-_, _≤_}
 use mathlib.Core.Path.{_≡_}
 use mathlib.Core.Bool.{Bool, true}
 use mathlib.Core.List.{List, _++_}
-use mathlib.Core.Logic.{_↔_}
+use mathlib.Core.Logic.{_↔_, _⊎_}
 use lib.ListN.{length, take, drop}
 use lib.IntN.{ℤ}
 use Rattle.refusal.specs.Numbers.{numberOf, valuesOf}
@@ -59,12 +59,12 @@ WriteDetermined =
     (v : Version) (s : List ℕ) (r : Record) (xs : List ℕ) (at : ℕ) (a b : Wrote) (ys zs : List ℕ)
     → Writes v s r xs at a ys → Writes v s r xs at b zs → (a ≡ b) × (ys ≡ zs)
 
--- ---- the record call refuses 3 to 7 only, each exactly for its cause
+-- ---- the record call refuses 3 to 7 and 21 only, each exactly for its cause
 
 pub data RecordCause (v : Version) (s : List ℕ) (last : Bool) : Refusal → Type 0 where
   -- 3: the bytes run out, and no more come
   unexpectedEnd : last ≡ true → readRecord v s 0 ≡ runsOut → RecordCause v s last UnexpectedEnd
-  -- 4 to 7: the kind or the rest of the record is refused
+  -- 4 to 7 and 21: the kind or the rest of the record is refused
   inRecord : {r : Refusal} → RecordRefused v s r → RecordCause v s last r
 
 -- the number and the values that the call says are those of a refusal that has its cause
@@ -77,5 +77,6 @@ pub record Caused (v : Version) (s : List ℕ) (last : Bool) (n : ℕ) (vs : Lis
 abbrev pub RecordRefuses : Type 0
 RecordRefuses = (v : Version) (s : List ℕ) (last : Bool) (n : ℕ) (vs : List ℤ) → (recordCall v s last ≡ refuses n vs) ↔ Caused v s last n vs
 
-abbrev pub ThreeToSeven : Type 0
-ThreeToSeven = (v : Version) (s : List ℕ) (last : Bool) (n : ℕ) (vs : List ℤ) → recordCall v s last ≡ refuses n vs → (3 ≤ n) × (n ≤ 7)
+abbrev pub ThreeToSevenOr21 : Type 0
+ThreeToSevenOr21 =
+    (v : Version) (s : List ℕ) (last : Bool) (n : ℕ) (vs : List ℤ) → recordCall v s last ≡ refuses n vs → ((3 ≤ n) × (n ≤ 7)) ⊎ (n ≡ 21)

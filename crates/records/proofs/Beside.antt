@@ -7,6 +7,8 @@ use lib.Seq.{take-at}
 use Rattle.packer.specs.declared.Part.{Part}
 use Rattle.packer.specs.declared.PartRead.{PartRead}
 use Rattle.packer.specs.declared.PartRead.the-variants as parts
+use Rattle.packer.specs.declared.DataRead.{DataRead}
+use Rattle.packer.specs.declared.DataRead.the-variants as blobs
 use Rattle.packer.specs.Parts.{shown, readRaw, readData}
 use Rattle.fields.specs.Fields.{dt, Value, Reading, got, runsOut, refused, readFields}
 use Rattle.fields.specs.Views.{zeros}
@@ -72,9 +74,10 @@ lone-found : (s : List ℕ) (id p : Part) (f : Found) (next : ℕ) → AllLone (
 lone-found s id p (Known k) next = lone-payload s p k (payloadAt k) next
 lone-found s id p Unknown next = record { none = refl; tidy = λ r. refl }
 
-lone-data : (s : List ℕ) (id : Part) (x : PartRead) → AllLone (afterData s id x)
-lone-data s id (parts.Got p next) = lone-found s id p (find (shown s id)) next
-lone-data s id parts.RunsOut = tt
+lone-data : (s : List ℕ) (id : Part) (x : DataRead) → AllLone (afterData s id x)
+lone-data s id (blobs.Got p next) = lone-found s id p (find (shown s id)) next
+lone-data s id blobs.RunsOut = tt
+lone-data s id blobs.NegativeLength = tt
 
 lone-id : (s : List ℕ) (x : PartRead) → AllLone (afterId s x)
 lone-id s (parts.Got id next) = lone-data s id (readData s next)

@@ -9,7 +9,7 @@ use lib.Signed.{mag, ltZ}
 use mir.Syntax.{w32}
 use mir.Val.{SFits, toZ, ofZ}
 use Rattle.num.proofs.Signs.{below-zero}
-use Rattle.refusal.specs.declared.Refusal.the-variants.{NegativeDt}
+use Rattle.refusal.specs.declared.Refusal.the-variants.{NegativeDt, NegativeLength}
 use Rattle.varint.specs.Integers.{readInt}
 use Rattle.varint.specs.declared.Remark.{Remark}
 use Rattle.varint.specs.declared.IntRead.the-variants as ints
@@ -85,11 +85,13 @@ own-is kinds.Ex = refl
 abbrev pub ofShape : Kind → FieldsRead → Reading (Content Part)
 ofShape kind (read.Got f next) = got (fromFields (Plain kind) f) next
 ofShape kind read.RunsOut = runsOut
+ofShape kind read.NegativeLength = refused NegativeLength
 
 as-viewed : (kind : Kind) (shape : Shape) (x : FieldsRead) → ownFields (Plain kind) ≡ fieldsIn shape
     → ofShape kind x ≡ asContent (Plain kind) (viewed shape x)
 as-viewed kind shape (read.Got f next) e = ap (λ (fs : List Field). got (content (Plain kind) (valuesIn fs f)) next) e
 as-viewed kind shape read.RunsOut e = refl
+as-viewed kind shape read.NegativeLength e = refl
 
 pub shaped-read : (kind : Kind) (shape : Shape) (s : List ℕ) (at : ℕ) (x : FieldsRead) → restCode kind ≡ rests.Shaped shape
     → viewed shape x ≡ readFields (fieldsIn shape) s at → ofShape kind x ≡ readRest kind s at

@@ -59,10 +59,12 @@ fn read_dt(s: &[u8], at: usize) -> ItemRead
 fn read_ex(s: &[u8], at: usize) -> ItemRead
     ensures { λ r. ⌜ itemIs r ≡ readEx (now (s .entry)) at ⌝ }
 {
-    let ExRead::Got { item, next } = extension_records::read_ex(s, at) else {
-        return ItemRead::RunsOut;
-    };
-    ItemRead::Got { item, next }
+    let read = extension_records::read_ex(s, at);
+    match read {
+        ExRead::Got { item, next } => ItemRead::Got { item, next },
+        ExRead::RunsOut => ItemRead::RunsOut,
+        ExRead::NegativeLength => ItemRead::Refused(Refusal::NegativeLength),
+    }
 }
 
 // How a record goes on after its kind: fields of a shape; dt; an input (whether a new one) or a command, which have something beside
@@ -136,12 +138,14 @@ fn read_shaped(kind: Kind, shape: Shape, s: &[u8], at: usize) -> ItemRead
     requires { ⌜ restCode kind ≡ Rest.Shaped shape ⌝ }
     ensures { λ r. ⌜ itemIs r ≡ readRest kind (now (s .entry)) at ⌝ }
 {
-    let FieldsRead::Got { fields, next } = shapes::read_shape(shape, s, at) else {
-        return ItemRead::RunsOut;
-    };
-    ItemRead::Got {
-        item: plain_item(kind, fields),
-        next,
+    let read = shapes::read_shape(shape, s, at);
+    match read {
+        FieldsRead::Got { fields, next } => ItemRead::Got {
+            item: plain_item(kind, fields),
+            next,
+        },
+        FieldsRead::RunsOut => ItemRead::RunsOut,
+        FieldsRead::NegativeLength => ItemRead::Refused(Refusal::NegativeLength),
     }
 }
 

@@ -24,6 +24,7 @@ use Rattle.refusal.specs.declared.Refusal.the-variants.{
   Closed,
   NotLast,
   TickGone,
+  NegativeLength,
 }
 
 abbrev pub numbered : Refusal → ℕ × List ℤ
@@ -47,6 +48,7 @@ numbered BadState = (17, [])
 numbered Closed = (18, [])
 numbered NotLast = (19, [])
 numbered TickGone = (20, [])
+numbered NegativeLength = (21, [])
 
 abbrev pub numberOf : Refusal → ℕ
 numberOf r = numbered r .0

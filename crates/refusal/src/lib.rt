@@ -24,6 +24,7 @@ pub enum Refusal {
     Closed,
     NotLast,
     TickGone,
+    NegativeLength,
 }
 
 impl Refusal {
@@ -51,6 +52,7 @@ impl Refusal {
             Refusal::Closed => 18,
             Refusal::NotLast => 19,
             Refusal::TickGone => 20,
+            Refusal::NegativeLength => 21,
         }
     }
 }

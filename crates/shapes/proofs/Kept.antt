@@ -2,7 +2,7 @@
 use Prim.Native.Nat.{ℕ}
 use mathlib.Core.Path.{_≡_, refl, sym, _∙_, ap}
 use mathlib.Core.Bool.{true, false, false≢true}
-use mathlib.Core.List.{List, _∷_}
+use mathlib.Core.List.{List, [], _∷_}
 use lib.ListN.{drop}
 use lib.IntN.{ℤ}
 use mir.Syntax.{w32}
@@ -17,10 +17,12 @@ use Rattle.packer.specs.Parts.{readRaw}
 use Rattle.packer.specs.declared.Part.{Part}
 use Rattle.packer.specs.declared.PartRead.{PartRead}
 use Rattle.packer.specs.declared.PartRead.the-variants as parts
+use Rattle.packer.specs.declared.DataRead.{DataRead}
+use Rattle.packer.specs.declared.DataRead.the-variants as blobs
 use Rattle.packer.proofs.Parts.{raw-got}
 use Rattle.fields.specs.Fields.{int, Value, num, bytes, Reading, runsOut, readFields}
-use Rattle.fields.specs.steps.Sorts.{intField, partField, push, andThen}
-use Rattle.shapes.specs.steps.Shapes.{fieldsIn, idPart, Shows, isNothing, onInt, onPart}
+use Rattle.fields.specs.steps.Sorts.{intField, partField, dataField, push, andThen}
+use Rattle.shapes.specs.steps.Shapes.{fieldsIn, idPart, Shows, isNothing, onInt, onPart, dataRead}
 use Rattle.shapes.specs.declared.Shape.{Shape}
 use Rattle.shapes.specs.declared.Shape.the-variants.{Nothing, Int, IntInt, IntStr, IntIntStr, IntUuidStr, IntUuidIntStr, IntData}
 use Rattle.shapes.specs.declared.FieldsRead.{FieldsRead}
@@ -52,6 +54,12 @@ module _ (shape : Shape) (h : Reading (List (Value Part)) → Reading (List (Val
       → ((p : Part) (n : ℕ) → Shows shape (k p n) (h (push (bytes p) (j n)))) → Shows shape (onPart x k) (h (andThen (partField x) j))
   by-part (parts.Got p n) k j f = f p n
   by-part parts.RunsOut k j f = record { values = sym out; blank = refl }
+
+-- a number, and data behind it
+pub data-shows : (a : ℤ) (x : DataRead) (s : List ℕ) → Shows IntData (dataRead a x) (push (num a) (andThen (dataField x) (readFields [] s)))
+data-shows a (blobs.Got t next) s = record { values = refl; blank = refl }
+data-shows a blobs.RunsOut s = record { values = refl; blank = refl }
+data-shows a blobs.NegativeLength s = record { values = refl; blank = refl }
 
 -- a shape other than Nothing begins with a number
 pub begins : (shape : Shape) → isNothing shape ≡ false → fieldsIn shape ≡ int ∷ drop 1 (fieldsIn shape)

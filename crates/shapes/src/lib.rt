@@ -3,7 +3,8 @@ ghost use mathlib.Core.Path.{_≡_};
 ghost use Rattle.fields.specs.Fields.{readFields};
 ghost use mathlib.Core.Bool.{false};
 ghost use Rattle.varint.specs.Integers.{readInt};
-ghost use Rattle.shapes.specs.steps.Shapes.{fieldsIn, pairIs, isNothing, numbersRead, textRead, secondRead, ShowsRest, Read};
+ghost use Rattle.shapes.specs.steps.Shapes.{fieldsIn, pairIs, isNothing, numbersRead, textRead, dataRead, secondRead, ShowsRest, Read};
+use packer::DataRead;
 use packer::Part;
 use packer::PartRead;
 use varint::IntRead;
@@ -28,9 +29,11 @@ pub struct Fields {
     pub text: Part,
 }
 
+// The fields and the place past them; or that the bytes run out; or that the length of data has been read and is below 0.
 pub enum FieldsRead {
     Got { fields: Fields, next: usize },
     RunsOut,
+    NegativeLength,
 }
 
 // Two numbers and the place past them. It is smaller than FieldsRead: most records hold no more.
@@ -87,7 +90,7 @@ fn no_text(first: i32, second: i32, next: usize) -> FieldsRead
     }
 }
 
-// The fields of a shape that ends in a string or data.
+// The fields of a shape that ends in a string.
 fn with_text(first: i32, second: i32, uuid: usize, text: PartRead) -> FieldsRead
     ensures { λ r. ⌜ r ≡ textRead first second uuid text ⌝ }
 {
@@ -102,6 +105,25 @@ fn with_text(first: i32, second: i32, uuid: usize, text: PartRead) -> FieldsRead
             text,
         },
         next,
+    }
+}
+
+// A number and the data behind it.
+fn with_data(first: i32, load: DataRead) -> FieldsRead
+    ensures { λ r. ⌜ r ≡ dataRead first load ⌝ }
+{
+    match load {
+        DataRead::Got { part: text, next } => FieldsRead::Got {
+            fields: Fields {
+                first,
+                second: 0,
+                uuid: 0,
+                text,
+            },
+            next,
+        },
+        DataRead::RunsOut => FieldsRead::RunsOut,
+        DataRead::NegativeLength => FieldsRead::NegativeLength,
     }
 }
 
@@ -161,7 +183,7 @@ fn read_rest(shape: Shape, first: i32, s: &[u8], at: usize) -> FieldsRead
             };
             read_second(first, at, true, s, next)
         }
-        Shape::IntData => with_text(first, 0, 0, packer::read_data(s, at)),
+        Shape::IntData => with_data(first, packer::read_data(s, at)),
     }
 }
 

@@ -13,6 +13,8 @@ use Rattle.packer.specs.Parts.{shown, readRaw, readData}
 use Rattle.packer.specs.declared.Part.{Part}
 use Rattle.packer.specs.declared.PartRead.{PartRead}
 use Rattle.packer.specs.declared.PartRead.the-variants as parts
+use Rattle.packer.specs.declared.DataRead.{DataRead}
+use Rattle.packer.specs.declared.DataRead.the-variants as blobs
 use Rattle.packer.proofs.Parts.{data-taken}
 use Rattle.fields.specs.Fields.{Field, Value, Reading, got, runsOut, refused, readFields}
 use Rattle.fields.proofs.AllTaken.{fields-taken}
@@ -119,9 +121,10 @@ found-sort : (w : List ℕ) (id p : Part) (f : Found) (next : ℕ) → RestSort 
 found-sort w id p (Known k) next = payload-sort w p k (payloadAt k) next
 found-sort w id p Unknown next = refl
 
-data-sort : (w : List ℕ) (id : Part) (x : PartRead) → RestSort kinds.Ex (afterData w id x)
-data-sort w id (parts.Got p next) = found-sort w id p (find (shown w id)) next
-data-sort w id parts.RunsOut = tt
+data-sort : (w : List ℕ) (id : Part) (x : DataRead) → RestSort kinds.Ex (afterData w id x)
+data-sort w id (blobs.Got p next) = found-sort w id p (find (shown w id)) next
+data-sort w id blobs.RunsOut = tt
+data-sort w id blobs.NegativeLength = tt
 
 id-sort : (w : List ℕ) (x : PartRead) → RestSort kinds.Ex (afterId w x)
 id-sort w (parts.Got id next) = data-sort w id (readData w next)
@@ -174,9 +177,10 @@ found-in : (w : List ℕ) (id p : Part) (f : Found) (next : ℕ) → next ≤ le
 found-in w id p (Known k) next h = payload-in w p k (payloadAt k) next h
 found-in w id p Unknown next h = h
 
-data-in : (w : List ℕ) (at : ℕ) (id : Part) (x : PartRead) → readData w at ≡ x → RestIn (length w) (afterData w id x)
-data-in w at id (parts.Got p next) e = found-in w id p (find (shown w id)) next (data-taken w at next p e .within)
-data-in w at id parts.RunsOut e = tt
+data-in : (w : List ℕ) (at : ℕ) (id : Part) (x : DataRead) → readData w at ≡ x → RestIn (length w) (afterData w id x)
+data-in w at id (blobs.Got p next) e = found-in w id p (find (shown w id)) next (data-taken w at next p e .within)
+data-in w at id blobs.RunsOut e = tt
+data-in w at id blobs.NegativeLength e = tt
 
 id-in : (w : List ℕ) (at : ℕ) (x : PartRead) → readRaw 16 w at ≡ x → RestIn (length w) (afterId w x)
 id-in w at (parts.Got id next) e = data-in w next id (readData w next) refl

@@ -125,7 +125,7 @@ pub data BytesRunOut (s : Scalars) (w : List ℕ) : Type 0 where
   inKind : nextKind (s .version) (s .pending) w ≡ runsOut → BytesRunOut s w
   inRest : {k : Kind} {n : ℕ} → HadKind s w k n → MayRead s k → readRest k w n ≡ runsOut → BytesRunOut s w
 
--- 3 to 7 and 12: no record was read, or a TickSkip
+-- 3 to 7, 12 and 21: no record was read, or a TickSkip
 pub data WhyPlain (s : Scalars) (w : List ℕ) (last : Bool) : Refusal → Type 0 where
   noMoreCome : last ≡ true → BytesRunOut s w → WhyPlain s w last UnexpectedEnd
   kindRefused : {r : Refusal} → nextKind (s .version) (s .pending) w ≡ refused r → WhyPlain s w last r

@@ -3,6 +3,7 @@
 // Standard input holds cases one behind the other, each after its length in a byte: what it is, the length of its name, the name, bytes.
 //   0: a reader, as alike::reader_in takes it; it reads a PlayerNew or, if it is closed, nothing more
 //   1: a version and a body, read to its end and called twice again
+//   2: a version, the length of a body, that body and another: each is read to its end, and both are to leave the same reader
 use kinds::Version;
 use libc::STDOUT_FILENO;
 use state::Reader;
@@ -89,13 +90,32 @@ fn body_case(s: &[u8]) {
     then(reader, true);
 }
 
+// The first body behind its length, then the other.
+fn two_bodies(version: Version, s: &[u8]) {
+    let end = cases::past(1, cases::size(cases::byte(s, 0)), s.len());
+    let one = ended(version, cases::window(s, 1, end));
+    say(b"  and cut");
+    let other = ended(version, cases::window(s, end, s.len()));
+    if !alike::same_reader(one, other) {
+        say(b"another reader is left\n");
+    }
+}
+
+fn both_case(s: &[u8]) {
+    two_bodies(version_of(cases::byte(s, 0)), cases::window(s, 1, s.len()));
+}
+
+fn run_bytes(what: u8, s: &[u8]) {
+    match what {
+        0 => reader_case(s),
+        1 => body_case(s),
+        _ => both_case(s),
+    }
+}
+
 fn run_named(what: u8, case: &[u8]) {
     say(cases::name(case));
-    if what == 0 {
-        reader_case(cases::behind_name(case));
-        return;
-    }
-    body_case(cases::behind_name(case));
+    run_bytes(what, cases::behind_name(case));
 }
 
 fn run_case(case: &[u8]) {

@@ -27,6 +27,7 @@ use Rattle.refusal.specs.declared.Refusal.the-variants.{
   Closed,
   NotLast,
   TickGone,
+  NegativeLength,
 }
 use Rattle.item.specs.Said.{refusing}
 use Rattle.views.specs.Shown.{RefusalsShown}
@@ -54,9 +55,10 @@ refusalBy n vs =
     ∷ BadState
     ∷ Closed
     ∷ NotLast
+    ∷ TickGone
     ∷ [])
     (n - 1)
-    TickGone
+    NegativeLength
 
 pub by-number : (r : Refusal) → refusalBy (numberOf r) (valuesOf r) ≡ r
 by-number WrongMagic = refl
@@ -79,6 +81,7 @@ by-number BadState = refl
 by-number Closed = refl
 by-number NotLast = refl
 by-number TickGone = refl
+by-number NegativeLength = refl
 
 pub refusals-shown : RefusalsShown
 refusals-shown a b n v = sym (by-number a) ∙ rw (n, v, by-number b)

@@ -9,12 +9,14 @@ use lib.IntN.{ℤ, pos, negsuc}
 use Rattle.varint.specs.Integers.{signOf, amount, isLast, readFrom, readInt}
 use Rattle.varint.specs.declared.IntRead.{IntRead}
 use Rattle.varint.specs.declared.IntRead.the-variants as ints
-use Rattle.packer.specs.Parts.{shown, readRaw, stringFrom, readString, dataOf, dataAfter, readData}
+use Rattle.packer.specs.Parts.{shown, readRaw, stringFrom, readString, asData, dataOf, dataAfter, readData}
 use Rattle.packer.specs.declared.Part.{Part}
 use Rattle.packer.specs.declared.PartRead.{PartRead}
 use Rattle.packer.specs.declared.PartRead.the-variants as parts
+use Rattle.packer.specs.declared.DataRead.{DataRead}
+use Rattle.packer.specs.declared.DataRead.the-variants as blobs
 use Rattle.fields.specs.Fields.{Field, int, dt, mask, str, uuid, blob, args, Value, Reading, got, runsOut, refused, argsFrom, readField, readFields}
-use Rattle.fields.specs.steps.Sorts.{intField, dtFrom, dtField, maskField, partField, oneArg, asStrings, argsOf, argsField, push, andThen}
+use Rattle.fields.specs.steps.Sorts.{intField, dtFrom, dtField, maskField, partField, dataField, oneArg, asStrings, argsOf, argsField, push, andThen}
 use Rattle.kinds.specs.Kinds.{kindOf, readKind}
 use Rattle.kinds.specs.steps.Kinds.{withClient, extensionKind, afterNumber}
 use Rattle.extensions.specs.Extensions.{Payload, shaped, allData, find, payloadAt}
@@ -63,10 +65,6 @@ abbrev pub PartPast : ℕ → PartRead → Type 0
 PartPast at (parts.Got p next) = at ≤ next
 PartPast at parts.RunsOut = Unit {0}
 
-part-weaker : (a b : ℕ) (x : PartRead) → a ≤ b → PartPast b x → PartPast a x
-part-weaker a b (parts.Got p next) h q = omega arith
-part-weaker a b parts.RunsOut h q = tt
-
 raw-past : (n : ℕ) (s : List ℕ) (at : ℕ) → PartPast at (readRaw n s at)
 unfolding readRaw
 raw-past n s at = either (PartPast at) (leb (at + n) (length s)) (omega arith) tt
@@ -80,15 +78,29 @@ string-past : (s : List ℕ) (at : ℕ) → PartPast at (readString s at)
 unfolding readString
 string-past s at = string-from (drop at s) at 0
 
-data-of : (s : List ℕ) (at : ℕ) (z : ℤ) (next : ℕ) → at < next → PartPast at (dataOf s z next)
-data-of s at (pos n) next h = part-weaker at next (readRaw n s next) (omega arith) (raw-past n s next)
+abbrev DataPast : ℕ → DataRead → Type 0
+DataPast at (blobs.Got p next) = at ≤ next
+DataPast at blobs.RunsOut = Unit {0}
+DataPast at blobs.NegativeLength = Unit {0}
+
+data-weaker : (a b : ℕ) (x : DataRead) → a ≤ b → DataPast b x → DataPast a x
+data-weaker a b (blobs.Got p next) h q = omega arith
+data-weaker a b blobs.RunsOut h q = tt
+data-weaker a b blobs.NegativeLength h q = tt
+
+as-data : (at : ℕ) (x : PartRead) → PartPast at x → DataPast at (asData x)
+as-data at (parts.Got p next) h = h
+as-data at parts.RunsOut h = tt
+
+data-of : (s : List ℕ) (at : ℕ) (z : ℤ) (next : ℕ) → at < next → DataPast at (dataOf s z next)
+data-of s at (pos n) next h = data-weaker at next (asData (readRaw n s next)) (omega arith) (as-data next (readRaw n s next) (raw-past n s next))
 data-of s at (negsuc n) next h = tt
 
-data-after : (s : List ℕ) (at : ℕ) (x : IntRead) → IntPast at x → PartPast at (dataAfter s x)
+data-after : (s : List ℕ) (at : ℕ) (x : IntRead) → IntPast at x → DataPast at (dataAfter s x)
 data-after s at (ints.Got z next r) h = data-of s at z next h
 data-after s at ints.RunsOut h = tt
 
-data-past : (s : List ℕ) (at : ℕ) → PartPast at (readData s at)
+data-past : (s : List ℕ) (at : ℕ) → DataPast at (readData s at)
 unfolding readData
 data-past s at = data-after s at (readInt s at) (int-past s at)
 
@@ -118,6 +130,11 @@ mask-field at ints.RunsOut h = tt
 part-field : (at : ℕ) (x : PartRead) → PartPast at x → Past at (partField x)
 part-field at (parts.Got p next) h = h
 part-field at parts.RunsOut h = tt
+
+data-field : (at : ℕ) (x : DataRead) → DataPast at x → Past at (dataField x)
+data-field at (blobs.Got p next) h = h
+data-field at blobs.RunsOut h = tt
+data-field at blobs.NegativeLength h = tt
 
 weaker : {A : Type 0} (a b : ℕ) (x : Reading A) → a ≤ b → Past b x → Past a x
 weaker a b (got c next) h p = omega arith
@@ -155,7 +172,7 @@ field-past dt s at = dt-field at (readInt s at) (int-past s at)
 field-past mask s at = mask-field at (readInt s at) (int-past s at)
 field-past str s at = part-field at (readString s at) (string-past s at)
 field-past uuid s at = part-field at (readRaw 16 s at) (raw-past 16 s at)
-field-past blob s at = part-field at (readData s at) (data-past s at)
+field-past blob s at = data-field at (readData s at) (data-past s at)
 field-past args s at = args-field s at (readInt s at) (int-past s at)
 
 push-past : (at : ℕ) (v : Value Part) (x : Reading (List (Value Part))) → Past at x → Past at (push v x)
@@ -192,13 +209,14 @@ found-past : (s : List ℕ) (at : ℕ) (id p : Part) (f : Found) (next : ℕ) �
 found-past s at id p (Known k) next h = payload-past s at p k (payloadAt k) next h
 found-past s at id p Unknown next h = h
 
-after-data : (s : List ℕ) (at : ℕ) (id : Part) (x : PartRead) → PartPast at x → Past at (afterData s id x)
-after-data s at id (parts.Got p next) h = found-past s at id p (find (shown s id)) next h
-after-data s at id parts.RunsOut h = tt
+after-data : (s : List ℕ) (at : ℕ) (id : Part) (x : DataRead) → DataPast at x → Past at (afterData s id x)
+after-data s at id (blobs.Got p next) h = found-past s at id p (find (shown s id)) next h
+after-data s at id blobs.RunsOut h = tt
+after-data s at id blobs.NegativeLength h = tt
 
 pub after-id : (s : List ℕ) (at : ℕ) (x : PartRead) → PartPast at x → Past at (afterId s x)
 after-id s at (parts.Got id next) h =
-    after-data s at id (readData s next) (part-weaker at next (readData s next) h (data-past s next))
+    after-data s at id (readData s next) (data-weaker at next (readData s next) h (data-past s next))
 after-id s at parts.RunsOut h = tt
 
 as-past : (s : List ℕ) (k : Kind) (r : Rest) (at : ℕ) → Past at (readAs s k r at)

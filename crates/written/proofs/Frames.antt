@@ -14,6 +14,7 @@ use Rattle.packer.specs.Parts.{part, shown, readRaw, readData}
 use Rattle.packer.specs.Texts.{isData, dataBytes}
 use Rattle.packer.specs.declared.Part.{Part}
 use Rattle.packer.specs.declared.PartRead.the-variants.{Got}
+use Rattle.packer.specs.declared.DataRead.the-variants as blobs
 use Rattle.packer.proofs.Places.{past, past-within, shown-at, raw-at, length-at, data-at, data-shown}
 use Rattle.packer.proofs.Reading.{shown-in}
 use Rattle.packer.proofs.Texts.{lead}
@@ -89,7 +90,7 @@ module _ (s : List ℕ) (at : ℕ) (id load rest : List ℕ) (starts : at ≤ le
   id-read : readRaw 16 s at ≡ Got (idPart at id) (at + length id)
   id-read = rw (← sixteen) (raw-at s id (dataBytes load ++ rest) at stands starts)
 
-  data-read : readData s (at + length id) ≡ Got (loadPart at id load) (endAt at id load)
+  data-read : readData s (at + length id) ≡ blobs.Got (loadPart at id load) (endAt at id load)
   data-read = data-at s load rest (at + length id) small data-stands data-starts
 
   reads : readEx s at ≡ ofFound s (idPart at id) (loadPart at id load) (find id) (endAt at id load)

@@ -15,7 +15,9 @@ use Rattle.packer.specs.Parts.{shown, readRaw, readData}
 use Rattle.packer.specs.declared.Part.{Part}
 use Rattle.packer.specs.declared.PartRead.{PartRead}
 use Rattle.packer.specs.declared.PartRead.the-variants as parts
-use Rattle.packer.proofs.Parts.{raw-taken, data-taken}
+use Rattle.packer.specs.declared.DataRead.{DataRead}
+use Rattle.packer.specs.declared.DataRead.the-variants as blobs
+use Rattle.packer.proofs.Parts.{raw-taken, data-taken, data-below, below-data, below-steady}
 use Rattle.fields.specs.Fields.{Value, Reading, got, runsOut, refused, readFields}
 use Rattle.fields.specs.Laws.{isOut}
 use Rattle.fields.proofs.Steady.{int-had, all-steady}
@@ -61,12 +63,14 @@ found-steady : (s t : List ℕ) (id p : Part) (f : Found) (n : ℕ) → n ≤ le
 found-steady s t id p (Known k) n h = payload-steady s t p k (payloadAt k) n h
 found-steady s t id p Unknown n h = refl
 
-data-steady : (s t : List ℕ) (id : Part) (n : ℕ) → shown (s ++ t) id ≡ shown s id → (x : PartRead) → readData s n ≡ x → isOut (afterData s id x) ≡ false
+data-steady : (s t : List ℕ) (id : Part) (n : ℕ) → shown (s ++ t) id ≡ shown s id → (x : DataRead) → readData s n ≡ x → isOut (afterData s id x) ≡ false
     → afterData (s ++ t) id (readData (s ++ t) n) ≡ afterData s id x
-data-steady s t id n same (parts.Got p m) x e =
+data-steady s t id n same (blobs.Got p m) x e =
     let d = data-taken s n m p x in
     rw (d .steady t, same) (found-steady s t id p (find (shown s id)) m (d .within))
-data-steady s t id n same parts.RunsOut x e = absurd (false≢true (sym e))
+data-steady s t id n same blobs.RunsOut x e = absurd (false≢true (sym e))
+data-steady s t id n same blobs.NegativeLength x e =
+    ap (afterData (s ++ t) id) (below-data (s ++ t) n (below-steady s n (data-below s n x) t))
 
 id-steady : (s t : List ℕ) (at : ℕ) (x : PartRead) → readRaw 16 s at ≡ x → isOut (afterId s x) ≡ false
     → afterId (s ++ t) (readRaw 16 (s ++ t) at) ≡ afterId s x

@@ -14,6 +14,8 @@ use Rattle.packer.specs.Parts.{shown, readRaw, readData}
 use Rattle.packer.specs.declared.Part.{Part}
 use Rattle.packer.specs.declared.PartRead.{PartRead}
 use Rattle.packer.specs.declared.PartRead.the-variants as parts
+use Rattle.packer.specs.declared.DataRead.{DataRead}
+use Rattle.packer.specs.declared.DataRead.the-variants as blobs
 use Rattle.fields.specs.Fields.{Field, uuid, blob, Value, bytes, Reading, got, runsOut, refused, readFields, mean}
 use Rattle.fields.specs.Remarks.{remarkIn, remarks}
 use Rattle.fields.specs.Writing.{writeFields, inside, partsInside}
@@ -157,9 +159,9 @@ record Framed (s : List ℕ) (at : ℕ) : Type 0 where
   rest : List ℕ
   frame : Frame s at id load rest
 
-data-framed : (s : List ℕ) → Bytes s → (at n : ℕ) (p : Part) → at ≤ length s → readRaw 16 s at ≡ parts.Got p n → (x : PartRead) → readData s n ≡ x
+data-framed : (s : List ℕ) → Bytes s → (at n : ℕ) (p : Part) → at ≤ length s → readRaw 16 s at ≡ parts.Got p n → (x : DataRead) → readData s n ≡ x
     → (c : Content Part) (next : ℕ) → afterData s p x ≡ got c next → remarkIn (readInt s n) + dataRemarks s p x ≡ 0 → Framed s at
-data-framed s b at n p h e (parts.Got q m) x c next g r =
+data-framed s b at n p h e (blobs.Got q m) x c next g r =
     let i = field-taken s at h uuid (bytes p) n (rw e) in
     let d = field-taken s n (i .within) blob (bytes q) m (rw x) in
     record {
@@ -170,7 +172,8 @@ data-framed s b at n p h e (parts.Got q m) x c next g r =
           framed s at (shown s p) (shown s q) (drop m s) h (i .sorted) (d .written)
           (i .whole b refl ∙ ap (λ l. shown s p ++ l) (d .whole b (omega arith)));
     }
-data-framed s b at n p h e parts.RunsOut x c next g r = not-out g
+data-framed s b at n p h e blobs.RunsOut x c next g r = not-out g
+data-framed s b at n p h e blobs.NegativeLength x c next g r = not-refused g
 
 id-framed : (s : List ℕ) → Bytes s → (at : ℕ) → at ≤ length s → (x : PartRead) → readRaw 16 s at ≡ x → (c : Content Part) (next : ℕ)
     → afterId s x ≡ got c next → idRemarks s x ≡ 0 → Framed s at

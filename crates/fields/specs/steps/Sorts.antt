@@ -13,6 +13,7 @@ use Rattle.packer.specs.Parts.{part}
 use Rattle.packer.specs.Texts.{noZero}
 use Rattle.packer.specs.declared.Part.{Part}
 use Rattle.packer.specs.declared.PartRead.{PartRead}
+use Rattle.packer.specs.declared.DataRead.{DataRead}
 use Rattle.fields.specs.Fields.{
   Field,
   int,
@@ -27,6 +28,7 @@ use Rattle.fields.specs.Fields.{
   withGot,
   withInt,
   withPart,
+  withData,
   withNatural,
   argsFrom,
 }
@@ -49,6 +51,9 @@ maskField i = withInt i (λ z. got (num (pos (ofZ w32 z))))
 
 abbrev pub partField : PartRead → Reading (Value Part)
 partField x = withPart x (λ p. got (bytes p))
+
+abbrev pub dataField : DataRead → Reading (Value Part)
+dataField x = withData x (λ p. got (bytes p))
 
 abbrev pub oneArg : PartRead → List Part → (List Part → ℕ → Reading (List Part)) → Reading (List Part)
 oneArg x had k = withPart x (λ p next. cond (ltb (length had) 16) (k (had ++ p ∷ []) next) (refused NumArgsTooLarge))

@@ -12,5 +12,7 @@ read-ex-spec =
     (λ c κs. search needs)
     (λ c. search needs)
     (λ c. search needs)
+    (λ c. search needs)
+    (λ c. ap exIs (sym (c .before .read .given .1)) ∙ c .before .before .before .read-ex .ensures)
     (λ c. ap exIs (sym (c .enum-told .given .1)) ∙ c .before .before .read-ex .ensures)
-    (λ c. ap exIs (sym (c .before .item .given .1)) ∙ c .before .before .before .read-ex .ensures))
+    (λ c. ap exIs (sym (c .enum-told2 .given .1)) ∙ c .before .before .read-ex .ensures))

@@ -11,7 +11,7 @@ use Rattle.fields.specs.Fields.{str, num, bytes, readFields}
 use Rattle.fields.specs.steps.Sorts.{push}
 use Rattle.shapes.specs.steps.Shapes.{idPart, isNothing}
 use Rattle.shapes.specs.declared.Shape.the-variants.{IntInt, IntStr, IntIntStr, IntUuidStr, IntUuidIntStr, IntData}
-use Rattle.shapes.proofs.Kept.{id-kept, by-int, by-part}
+use Rattle.shapes.proofs.Kept.{id-kept, by-int, by-part, data-shows}
 use Rattle.shapes.proofs.read_rest.Statement.{statement}
 use Rattle.shapes.proofs.read_rest.Tie as tie
 
@@ -85,8 +85,8 @@ returns-10 : tie.Need-returns-10
 returns-10 c =
     let a = c .before .before .before .before .before .args in
     let x : toZ w32 (ofZ w32 (a .first)) ≡ a .first = search needs in
-    rw (c .before .before .enum-told10 .given .1, c .with-text3 .ensures, x, c .before .read-data .ensures)
-    (by-part IntData (push (num (a .first))) refl (readData (a .s .now) (a .at)) _ (readFields [] (a .s .now)) (λ t n. record { values = refl; blank = refl }))
+    rw (c .before .before .enum-told10 .given .1, c .with-data .ensures, x, c .before .read-data .ensures)
+    (data-shows (a .first) (readData (a .s .now) (a .at)) (a .s .now))
 
 pub read-rest-spec : {M : Type 1} → statement M
 read-rest-spec =

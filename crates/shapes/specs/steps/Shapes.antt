@@ -8,13 +8,16 @@ use lib.Dec.{leb}
 use lib.IntN.{ℤ, pos}
 use mir.Syntax.{w32}
 use mir.Val.{ofZ}
+use Rattle.refusal.specs.declared.Refusal.the-variants as refusals
 use Rattle.varint.specs.declared.IntRead.{IntRead}
 use Rattle.varint.specs.declared.IntRead.the-variants as ints
 use Rattle.packer.specs.Parts.{part, readString}
 use Rattle.packer.specs.declared.Part.{Part}
 use Rattle.packer.specs.declared.PartRead.{PartRead}
 use Rattle.packer.specs.declared.PartRead.the-variants as parts
-use Rattle.fields.specs.Fields.{Field, int, dt, mask, str, uuid, blob, args, Value, num, bytes, Reading, got, runsOut, readFields}
+use Rattle.packer.specs.declared.DataRead.{DataRead}
+use Rattle.packer.specs.declared.DataRead.the-variants as blobs
+use Rattle.fields.specs.Fields.{Field, int, dt, mask, str, uuid, blob, args, Value, num, bytes, Reading, got, runsOut, refused, readFields}
 use Rattle.fields.specs.steps.Sorts.{push, noPart}
 use Rattle.shapes.specs.declared.Shape.{Shape}
 use Rattle.shapes.specs.declared.Shape.the-variants.{Nothing, Int, IntInt, IntStr, IntIntStr, IntUuidStr, IntUuidIntStr, IntData}
@@ -99,10 +102,12 @@ tidyFields fs f =
 abbrev pub viewed : Shape → FieldsRead → Reading (List (Value Part))
 viewed shape (code.Got f next) = got (valuesIn (fieldsIn shape) f) next
 viewed shape code.RunsOut = runsOut
+viewed shape code.NegativeLength = refused refusals.NegativeLength
 
 abbrev pub tidied : Shape → FieldsRead → FieldsRead
 tidied shape (code.Got f next) = code.Got (tidyFields (fieldsIn shape) f) next
 tidied shape code.RunsOut = code.RunsOut
+tidied shape code.NegativeLength = code.NegativeLength
 
 -- the code's fields show what was read, and the fields that the shape lacks are blank
 pub record Shows (shape : Shape) (r : FieldsRead) (x : Reading (List (Value Part))) : Type 0 where
@@ -143,6 +148,11 @@ numbersRead a b next = code.Got (fieldsWith a b 0 noPart) next
 
 abbrev pub textRead : ℤ → ℤ → ℕ → PartRead → FieldsRead
 textRead a b id x = onPart x (λ t next. code.Got (fieldsWith a b id t) next)
+
+abbrev pub dataRead : ℤ → DataRead → FieldsRead
+dataRead a (blobs.Got t next) = code.Got (fieldsWith a (pos 0) 0 t) next
+dataRead a blobs.RunsOut = code.RunsOut
+dataRead a blobs.NegativeLength = code.NegativeLength
 
 abbrev pub secondRead : ℤ → ℕ → Bool → List ℕ → IntRead → FieldsRead
 secondRead a id string s x = onInt x (λ b next. cond string (textRead a b id (readString s next)) (numbersRead a b next))
