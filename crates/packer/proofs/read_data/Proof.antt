@@ -13,6 +13,7 @@ use Rattle.varint.specs.declared.Remark.{Remark}
 use Rattle.varint.specs.declared.IntRead.the-variants as ints
 use Rattle.packer.specs.Parts.{readRaw, asData, dataAfter, dataOf, readData}
 use Rattle.packer.specs.declared.PartRead.{PartRead}
+use Rattle.packer.specs.declared.PartRead.the-variants as parts
 use Rattle.num.proofs.Signs.{below-zero, not-below-zero, read-back, casts-64}
 use Rattle.packer.proofs.read_data.Statement.{statement}
 use Rattle.packer.proofs.read_data.Tie as tie
@@ -40,23 +41,20 @@ data-raw s at m z remark h left i x e =
     ∙ ap (λ y. dataOf s y m) (sym (not-below-zero z h left))
     ∙ ap (dataAfter s) i
 
-returns-3 : tie.Need-returns-3
-returns-3 c =
-    let r = c .before .before in
-    let f = r .before .before .before .value .given in
-    let i = r .before .before .before .before .before in
+after : (c : tie.After-read-raw) (x : PartRead) → c .read-raw .result ≡ x
+    → asData x ≡ readData (c .before .before .before .before .before .before .before .args .s .now) (c .before .before .before .before .before .before .before .args .at)
+after c x e =
+    let f = c .before .before .before .value .given in
+    let i = c .before .before .before .before .before in
     let a = i .before .before .args in
-    ap asData (sym (c .enum-told2 .given .1))
-    ∙ data-raw (a .s .now) (a .at) (f .0 .1 .0) (f .0 .0) (f .0 .1 .1 .0) (search needs) (r .before .if1 .left) (sym (f .1) ∙ i .read-int .ensures) _ (r .read-raw .ensures)
+    data-raw (a .s .now) (a .at) (f .0 .1 .0) (f .0 .0) (f .0 .1 .1 .0) (search needs) (c .before .if1 .left) (sym (f .1) ∙ i .read-int .ensures) x
+    (sym e ∙ c .read-raw .ensures)
+
+returns-3 : tie.Need-returns-3
+returns-3 c = after (c .before .before) parts.RunsOut (c .enum-told2 .given .1)
 
 returns-4 : tie.Need-returns-4
-returns-4 c =
-    let r = c .before .before .before in
-    let f = r .before .before .before .value .given in
-    let i = r .before .before .before .before .before in
-    let a = i .before .before .args in
-    ap asData (sym (c .before .part .given .1))
-    ∙ data-raw (a .s .now) (a .at) (f .0 .1 .0) (f .0 .0) (f .0 .1 .1 .0) (search needs) (r .before .if1 .left) (sym (f .1) ∙ i .read-int .ensures) _ (r .read-raw .ensures)
+returns-4 c = let g = c .before .part .given in after (c .before .before .before) (parts.Got (g .0 .0) (g .0 .1 .0)) (g .1)
 
 pub read-data-spec : {M : Type 1} → statement M
 read-data-spec =
