@@ -117,7 +117,7 @@ module _ (left k b at sign n next : ℕ) (v : ℤ) (s : List ℕ) (h4 : k < 4) (
       let high : (b % 128 + 128 * g .rest) / 128 ≡ g .rest = omega arith in
       let w : b % 128 * weight k + g .rest * (128 * weight k) ≡ (b % 128 + 128 * g .rest) * weight k =
       rw (low, high) at (parts (b % 128 + 128 * g .rest) (weight k)) in
-      let w2 : b % 128 * weight k + g .rest * weight (k + 1) ≡ (b % 128 + 128 * g .rest) * weight k = rw (next-weight k p h4) w in
+      let w2 : b % 128 * weight k + g .rest * weight (k + 1) ≡ (b % 128 + 128 * g .rest) * weight k = rw (next-weight k p) w in
       let a = amount-mid k b p h4 in
       let m : n + amount k b + g .rest * weight (k + 1) ≡ n + (b % 128 + 128 * g .rest) * weight k = omega arith in
       g .value ∙ rw m

@@ -5,16 +5,17 @@ use mathlib.Core.List.{List, [], _∷_}
 use native.Mathlib.Omega.{arith}
 use native.Mathlib.Numerals.{add-one}
 use borrow.Author.Tests.{lt-ltb}
-use mathlib.Core.Bool.{true, false}
+use mathlib.Core.Bool.{true, false, cond}
 use lib.ListN.{length, getD, drop}
 use lib.Seq.{drop-cons}
-use Rattle.varint.specs.Integers.{digits, amount, signOf, valueOf, isLast, remarkOf, readFrom, readInt}
+use lib.Dec.{eqb}
+use Rattle.varint.specs.Integers.{weight, digits, amount, signOf, valueOf, isLast, remarkOf, readFrom, readInt}
 use Rattle.varint.specs.declared.Remark.the-variants.{None}
 use Rattle.varint.specs.declared.IntRead.the-variants.{Got, RunsOut}
 
--- the sum of the first k bytes is below this
+-- the sum of the first k bytes is below this: the weight of the next one, and of all five 2 to the power 32
 abbrev pub limit : ℕ → ℕ
-limit k = getD (1 ∷ 64 ∷ 8192 ∷ 1048576 ∷ 134217728 ∷ 4294967296 ∷ []) k 0
+limit k = cond (eqb k 5) 4294967296 (weight k)
 
 pub grows : (k b : ℕ) → k < 5 → (amount k b + limit k ≤ limit (k + 1)) × ((limit (k + 1) ≤ 4294967296) × (0 < limit k))
 unfolding amount

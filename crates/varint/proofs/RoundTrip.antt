@@ -9,6 +9,7 @@ use native.Mathlib.Nat.{div-add-mod', add-mul, mul-assoc, add-comm, add-zero}
 use lib.ListN.{length, getD, take, drop}
 use lib.Seq.{drop-append-seam, getD-append-seam}
 use lib.Dec.{eqb, ltb}
+use lib.Pow.{pow-add}
 use lib.IntN.{ℤ, pos, negsuc}
 use lib.Signed.{mag}
 use borrow.Author.Tests.{eq-eqb, ne-eqb, lt-ltb, le-ltb}
@@ -67,12 +68,11 @@ module _ (k rest : ℕ) (at sign n : ℕ) (s : List ℕ) (later : 0 < k) (some :
       let d : (rest % 128 + 128) % 128 ≡ rest % 128 = omega arith in
       simp (ne-eqb (rest / 128) 0 z, k0, k4, d, le-ltb (rest % 128 + 128) 128 (omega arith))
 
-pub next-weight : (k : ℕ) → 0 < k → k < 4 → weight (k + 1) ≡ 128 * weight k
-next-weight zero p h = absurd (omega arith)
-next-weight (suc zero) p h = refl
-next-weight (suc (suc zero)) p h = refl
-next-weight (suc (suc (suc zero))) p h = refl
-next-weight (suc (suc (suc (suc k)))) p h = absurd (omega arith)
+-- each later byte weighs 128 times the one before
+pub next-weight : (k : ℕ) → 0 < k → weight (k + 1) ≡ 128 * weight k
+next-weight k p =
+    let e : 7 * (k + 1) - 1 ≡ 7 + (7 * k - 1) = omega arith in
+    rw (ne-eqb k 0 (λ q. omega arith), ne-eqb (k + 1) 0 (λ q. omega arith), e) (pow-add 2 7 (7 * k - 1))
 
 -- the later bytes are read back
 later-read : (left k rest at sign n : ℕ) (s : List ℕ) → k + left ≡ 5 → 0 < k → (rest ≡ 0 → ⊥) → rest < room left
@@ -89,7 +89,7 @@ later-read (suc (suc left)) k rest at sign n s e p some h =
     (read-end k rest at sign n s p some (omega arith) z))
     (λ z.
     let h4 : k < 4 = omega arith in
-    let w = next-weight k p h4 in
+    let w = next-weight k p in
     let len = length (laterBytes (suc left) (rest / 128)) in
     let m : rest % 128 * weight k + rest / 128 * weight (k + 1) ≡ rest * weight k = rw w (parts rest (weight k)) in
     let q : n + rest % 128 * weight k + rest / 128 * weight (k + 1) ≡ n + rest * weight k = omega arith in

@@ -14,13 +14,16 @@ use Rattle.refusal.specs.declared.Refusal.the-variants.{ShortTarget}
 use Rattle.varint.specs.Integers.{readFrom, readInt}
 use Rattle.varint.specs.Written.{fitsAt, wroteSaid, writing}
 use Rattle.varint.specs.steps.Writing.{wrote}
-use Rattle.varint.specs.Laws.{IntWrittenReads, IntReadsWritten, WritersSay, Steady, Shorter, intOut, IntSteady}
+use Rattle.varint.specs.Laws.{FirstWeights, IntWrittenReads, IntReadsWritten, WritersSay, Steady, Shorter, intOut, IntSteady}
 use Rattle.varint.specs.declared.IntRead.{IntRead}
 use Rattle.varint.specs.declared.IntRead.the-variants.{Got, RunsOut}
 use Rattle.varint.specs.declared.Wrote.the-variants.{Past, Refused}
 use Rattle.varint.proofs.RoundTrip.{canonical-read}
 use Rattle.varint.proofs.Back.{read-canonical}
 use Rattle.varint.proofs.Prefix.{int-prefix}
+
+pub first-weights : FirstWeights
+first-weights = refl
 
 pub written-reads : IntWrittenReads
 written-reads = canonical-read

@@ -1,5 +1,5 @@
 -- Reading an integer. docs/FORMAT.md, "Integers". Bytes and digits are naturals; only a value is a ℤ.
-use Prim.Native.Nat.{ℕ, _+_, _-_, _*_, _/_, _%_}
+use Prim.Native.Nat.{ℕ, _+_, _-_, _*_, _/_, _%_, _^_}
 use mathlib.Core.Bool.{Bool, true, cond}
 use mathlib.Core.List.{List, [], _∷_}
 use lib.ListN.{getD, drop}
@@ -12,9 +12,10 @@ use Rattle.varint.specs.declared.Remark.the-variants.{None, Overlong, Pa
 use Rattle.varint.specs.declared.IntRead.{IntRead}
 use Rattle.varint.specs.declared.IntRead.the-variants.{Got, RunsOut}
 
--- the weight of byte k's lowest digit; bytes are counted from 0
+-- the weight of byte k's lowest digit; bytes are counted from 0: 1 for the first byte, and for the k-th byte after it 2 to the
+-- power (7k - 1)
 abbrev pub weight : ℕ → ℕ
-weight k = getD (1 ∷ 64 ∷ 8192 ∷ 1048576 ∷ 134217728 ∷ []) k 0
+weight k = cond (eqb k 0) 1 (2 ^ (7 * k - 1))
 
 -- the digits of byte k: six bits of the first, the low five of the fifth, seven of the others
 abbrev pub digits : ℕ → ℕ → ℕ

@@ -2,12 +2,12 @@
 use Prim.Native.Nat.{ℕ, _+_, _-_, _<_}
 use mathlib.Core.Path.{_≡_}
 use mathlib.Core.Bool.{Bool, true, false}
-use mathlib.Core.List.{List, _++_}
+use mathlib.Core.List.{List, [], _∷_, _++_, map}
 use lib.ListN.{length, getD, take, drop}
 use lib.IntN.{ℤ}
 use mir.Syntax.{w32}
 use mir.Val.{SFits}
-use Rattle.varint.specs.Integers.{readInt}
+use Rattle.varint.specs.Integers.{weight, readInt}
 use Rattle.varint.specs.Written.{canonical, wroteSaid, writing}
 use Rattle.varint.specs.steps.Writing.{wroteIf}
 use Rattle.varint.specs.declared.Remark.the-variants.{None}
@@ -17,6 +17,10 @@ use Rattle.varint.specs.declared.IntRead.the-variants.{Got, RunsOut}
 -- a list of bytes
 abbrev pub Bytes : List ℕ → Type 0
 Bytes s = (i : ℕ) → getD s i 0 < 256
+
+-- the weights that the rule gives the five bytes
+abbrev pub FirstWeights : Type 0
+FirstWeights = map weight (0 ∷ 1 ∷ 2 ∷ 3 ∷ 4 ∷ []) ≡ 1 ∷ 64 ∷ 8192 ∷ 1048576 ∷ 134217728 ∷ []
 
 -- written and read again: the same number, no remark, exactly the bytes written used, whatever stands before and after
 abbrev pub IntWrittenReads : Type 0

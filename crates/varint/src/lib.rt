@@ -1,7 +1,7 @@
 // Reading integers of variable length (packer/src/lib.rs, read_int).
 ghost use mathlib.Core.Path.{_≡_};
 ghost use Prim.Native.Nat.{_<_};
-ghost use Rattle.varint.specs.Integers.{digits, amount, signOf, valueOf, isLast, remarkOf, readInt};
+ghost use Rattle.varint.specs.Integers.{weight, digits, amount, signOf, valueOf, isLast, remarkOf, readInt};
 use refusal::Refusal;
 
 // What stands out in a number's bytes. It never refuses.
@@ -27,8 +27,6 @@ pub enum Wrote {
     Refused(Refusal),
 }
 
-const WEIGHTS: [u32; 5] = [1, 64, 8192, 1048576, 134217728];
-
 // The digits of byte k.
 fn digit_bits(k: usize, b: u8) -> u8
     ensures { λ r. ⌜ r ≡ digits k b ⌝ }
@@ -39,12 +37,23 @@ fn digit_bits(k: usize, b: u8) -> u8
     if k == 4 { b % 32 } else { b % 128 }
 }
 
+// The weight of byte k's lowest digit.
+fn weight_of(k: usize) -> u32
+    requires { ⌜ k < 5 ⌝ }
+    ensures { λ r. ⌜ r ≡ weight k ⌝ }
+{
+    if k == 0 {
+        return 1;
+    }
+    1u32 << (7 * k - 1) as u32
+}
+
 // What byte k of a number adds to it.
 fn add_byte(k: usize, b: u8) -> u32
     requires { ⌜ k < 5 ⌝ }
     ensures { λ r. ⌜ r ≡ amount k b ⌝ }
 {
-    digit_bits(k, b) as u32 * WEIGHTS[k]
+    digit_bits(k, b) as u32 * weight_of(k)
 }
 
 fn value_of(sign: u8, n: u32) -> i32

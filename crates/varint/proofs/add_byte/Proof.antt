@@ -12,23 +12,18 @@ digit-bits-requires c κs = search needs
 cast-result : tie.Need-cast-result
 cast-result c = search needs
 
+weight-of-requires : tie.Need-weight-of-requires
+weight-of-requires c κs = omega arith
+
 mul-result : tie.Need-mul-result
-mul-result c = search needs
-
-array-read-result : tie.Need-array-read-result
-array-read-result c = search needs
-
-mul-result-2 : tie.Need-mul-result-2
 unfolding amount
-mul-result-2 c =
-    rw (c .digit-bits .ensures)
-    (omega (arith, grows (c .before .args .k) (c .before .args .b) (c .before .pre)))
+mul-result c =
+    rw (c .before .digit-bits .ensures, c .weight-of .ensures)
+    (omega (arith, grows (c .before .before .args .k) (c .before .before .args .b) (c .before .before .pre)))
 
 returns : tie.Need-returns
 unfolding amount
-returns c = rw (c .digit-bits .ensures)
+returns c = rw (c .before .digit-bits .ensures, c .weight-of .ensures)
 
 pub add-byte-spec : {M : Type 1} → statement M
-add-byte-spec =
-    tie.close
-    (tie.spec digit-bits-requires cast-result mul-result array-read-result mul-result-2 returns)
+add-byte-spec = tie.close (tie.spec digit-bits-requires cast-result weight-of-requires mul-result returns)
