@@ -12,8 +12,8 @@ use Rattle.varint.specs.declared.Remark.the-variants.{None, Overlong, Pa
 use Rattle.varint.specs.declared.IntRead.{IntRead}
 use Rattle.varint.specs.declared.IntRead.the-variants.{Got, RunsOut}
 
--- the weight of byte k's lowest digit; bytes are counted from 0: 1 for the first byte, and for the k-th byte after it 2 to the
--- power (7k - 1)
+-- the weight of a byte's lowest digit: 1 for the first byte, and for the k-th byte after it 2 to the power (7k - 1). So the first
+-- byte is byte 0
 abbrev pub weight : ℕ → ℕ
 weight k = cond (eqb k 0) 1 (2 ^ (7 * k - 1))
 
