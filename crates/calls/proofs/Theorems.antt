@@ -1,6 +1,7 @@
 -- The statements of specs/Laws.antt. Assumes nothing.
-use Rattle.calls.specs.Laws.{CallWithin, MoreLeaves, CallLonger, RunsAreLists, RunsSplit, FewEvents, RunTens, RunWithin, EnoughCalls, EventsOfFew}
+use Rattle.calls.specs.Laws.{CallWithin, MoreLeaves, CallLonger, ReachedForgetBetween, RunsAreLists, RunsSplit, FewEvents, RunTens, RunWithin, EnoughCalls, EventsOfFew}
 use Rattle.calls.proofs.Singles as singles
+use Rattle.calls.proofs.Reached as reached
 use Rattle.calls.proofs.Runs as runs
 
 pub call-within : CallWithin
@@ -11,6 +12,9 @@ more-leaves = singles.more-leaves
 
 pub call-longer : CallLonger
 call-longer = singles.call-longer
+
+pub reached-forget-between : ReachedForgetBetween
+reached-forget-between = reached.reached-forget-between
 
 pub runs-are-lists : RunsAreLists
 runs-are-lists = runs.runs-are-lists

@@ -5,8 +5,10 @@ use mathlib.Core.Bool.{Bool, false}
 use mathlib.Core.List.{List, [], _∷_, _++_}
 use lib.ListN.{length, drop}
 use Rattle.item.specs.Said.{Said, gives, more, finish, refuses}
+use Rattle.kinds.specs.declared.Version.{Version}
+use Rattle.state.specs.State.{emptyReader}
 use Rattle.state.specs.Reading.{Event, readCall, readerAfter}
-use Rattle.state.specs.Laws.{usedIn}
+use Rattle.state.specs.Laws.{usedIn, ForgetsBetween}
 use Rattle.state.specs.declared.Reader.{Reader}
 use Rattle.calls.specs.Calls.{Call, Seen, after, events}
 use Rattle.calls.specs.Along.{Halt, isFull, wantsMore, finishes, isRefused, Run, along, enough}
@@ -33,6 +35,12 @@ NotMore (refuses k vs) = Unit {0}
 abbrev pub CallLonger : Type 0
 CallLonger =
     (r : Reader) (w x : List ℕ) (last : Bool) → NotMore (readCall r w false .said) → readCall r (w ++ x) last ≡ readCall r w false
+
+-- ---- readers reached by reading: by any list of calls from an empty one
+
+-- an open one outside a tick, with nothing pending, remembers no client
+abbrev pub ReachedForgetBetween : Type 0
+ReachedForgetBetween = (v : Version) (list : List Call) → ForgetsBetween (after (emptyReader v) list .scalars)
 
 -- ---- calls along bytes
 

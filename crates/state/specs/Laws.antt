@@ -7,6 +7,7 @@ use mathlib.Core.List.{List}
 use lib.ListN.{length}
 use lib.IntN.{ℤ, pos}
 use Rattle.item.specs.Said.{Said, gives, more, finish, refuses}
+use Rattle.kinds.specs.declared.Cid.the-variants.{NoCid}
 use Rattle.kinds.specs.declared.Version.{Version}
 use Rattle.state.specs.State.{Memory, withEntries, withPlayer, goodEntries, goodScalars, goodReader, emptyReader}
 use Rattle.state.specs.Reading.{
@@ -28,7 +29,8 @@ use Rattle.state.specs.Reading.{
   readerAfter,
 }
 use Rattle.state.specs.declared.Entries.{Entries}
-use Rattle.state.specs.declared.Standing.the-variants.{Finished, Refused}
+use Rattle.state.specs.declared.Pending.the-variants.{NoKind}
+use Rattle.state.specs.declared.Standing.the-variants.{Open, Finished, Refused}
 use Rattle.state.specs.declared.Scalars.{Scalars}
 use Rattle.state.specs.declared.Reader.{Reader}
 
@@ -112,3 +114,14 @@ EmptySound = (v : Version) → Sound (emptyReader v)
 
 abbrev pub ReadersStaySound : Type 0
 ReadersStaySound = (r : Reader) (w : List ℕ) (last : Bool) → Sound r → Sound (readerAfter (readCall r w last))
+
+-- ---- the remembered client between ticks (rules 3 and 6)
+
+-- an open reader outside a tick, with nothing pending, remembers no client; after finish one may be remembered
+abbrev pub ForgetsBetween : Scalars → Type 0
+ForgetsBetween s = s .standing ≡ Open → s .inside ≡ false → s .pending ≡ NoKind → s .remembered ≡ NoCid
+
+-- a call keeps it so
+abbrev pub ReadersForgetBetween : Type 0
+ReadersForgetBetween =
+    (r : Reader) (w : List ℕ) (last : Bool) → ForgetsBetween (r .scalars) → ForgetsBetween (readerAfter (readCall r w last) .scalars)

@@ -117,9 +117,9 @@ starting k s = turned s (s .tick) true (s .remembered) (s .largest) (Is k) (s .s
 unfoldable pub ending : ℤ → Cid → Kind → Scalars → Scalars
 ending t p k s = turned s t false p (s .largest) (Is k) (s .standing)
 
--- after a TickSkip none is; the remembered client stays
+-- after a TickSkip nothing is pending, and no client is remembered
 unfoldable pub skipping : ℤ → Bool → Scalars → Scalars
-skipping t i s = turned s t i (s .remembered) (s .largest) NoKind (s .standing)
+skipping t i s = turned s t i NoCid (s .largest) NoKind (s .standing)
 
 unfoldable pub refusalStep : Refusal → Scalars → Memory → Step
 refusalStep r s m = stepOf (refusing r) (closing Refused s) m

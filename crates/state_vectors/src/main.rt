@@ -1,12 +1,15 @@
 // Readers that no body gives: a line for each case, its name and the answer. Refusals 17 and 18 by the reading call, 17 beside a state that
-// passes; a refusal is to leave the reader unchanged.
+// passes; a refusal is to leave the reader unchanged. TickSkips, taken and refused, of readers that remember a client.
 // Standard input holds cases one behind the other, each after its length in a byte: what it is, the length of its name, the name, bytes.
 //   0: a reader, as alike::reader_in takes it; it reads a PlayerNew or, if it is closed, nothing more
 //   1: a version and a body, read to its end and called twice again
 //   2: a version, the length of a body, that body and another: each is read to its end, and both are to leave the same reader
+//   3: a client, 100 more than it is; a reader, which remembers it; a window, the last, for one call
+use kinds::Cid;
 use kinds::Version;
 use libc::STDOUT_FILENO;
 use state::Reader;
+use state::Scalars;
 use texts::Text;
 use texts::Used;
 
@@ -105,11 +108,56 @@ fn both_case(s: &[u8]) {
     two_bodies(version_of(cases::byte(s, 0)), cases::window(s, 1, s.len()));
 }
 
+fn remembering(reader: Reader, cid: i32) -> Reader {
+    let s = reader.scalars;
+    let version = s.version;
+    let pending = s.pending;
+    let standing = s.standing;
+    let entries = reader.entries;
+    let scalars = Scalars {
+        version,
+        tick: s.tick,
+        inside: s.inside,
+        remembered: Cid::Of(cid),
+        largest: s.largest,
+        pending,
+        standing,
+    };
+    Reader { scalars, entries }
+}
+
+// What became of the client that was remembered.
+fn say_client(was: i32, now: Cid) {
+    let Cid::Of(cid) = now else {
+        say(b" forgotten");
+        return;
+    };
+    if cid != was {
+        say(b" another");
+        return;
+    }
+    say(b" kept");
+}
+
+fn client_case(s: &[u8]) {
+    let cid = cases::number(s, 0);
+    let reader = remembering(alike::reader_in(cases::window(s, 1, 15)), cid);
+    let got = reader::read(reader, cases::window(s, 15, s.len()), true);
+    let answer = got.answer;
+    let input = got.input;
+    let left = got.reader;
+    let scalars = left.scalars;
+    let now = scalars.remembered;
+    say_client(cid, now);
+    print(texts::told(answer, input));
+}
+
 fn run_bytes(what: u8, s: &[u8]) {
     match what {
         0 => reader_case(s),
         1 => body_case(s),
-        _ => both_case(s),
+        2 => both_case(s),
+        _ => client_case(s),
     }
 }
 

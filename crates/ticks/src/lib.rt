@@ -155,11 +155,11 @@ pub fn ended(s: Scalars, tick: i32, remembered: Cid, kind: Kind) -> Scalars
     ticked(s, tick, false, remembered, Pending::Is(kind))
 }
 
+// After a TickSkip nothing is pending, and no client is remembered.
 fn skipped_to(s: Scalars, tick: i32, inside: bool) -> Scalars
     ensures { λ r. ⌜ r ≡ skipping tick inside s ⌝ }
 {
-    let remembered = s.remembered;
-    ticked(s, tick, inside, remembered, Pending::NoKind)
+    ticked(s, tick, inside, Cid::NoCid, Pending::NoKind)
 }
 
 fn wide(x: u32) -> u64

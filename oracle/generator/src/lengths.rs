@@ -4,15 +4,12 @@ mod any;
 mod limits;
 
 use crate::body::Body;
+use crate::fixed::Fixed;
 use crate::integer;
 use crate::random::Random;
 use crate::record::EXTENSION;
 use crate::record::MESSAGE;
 use std::sync::OnceLock;
-
-/// A prime number. Behind the smallest inputs the fixed list is gone through in steps of it, so that a short comparison has some of
-/// every part.
-const STRIDE: usize = 7919;
 
 const WINDOW: usize = 65536;
 
@@ -34,23 +31,10 @@ impl Head {
     }
 }
 
-struct Fixed {
-    smallest: Vec<Vec<u8>>,
-    others: Vec<Vec<u8>>,
-}
-
 /// The fixed list first, of it the smallest ones; then negative lengths behind other records.
 pub fn input(index: u64, random: &mut Random) -> Vec<u8> {
-    let Fixed { smallest, others } = fixed();
-    let index = index as usize;
-    if index < smallest.len() {
-        return smallest[index].clone();
-    }
-    let behind = index - smallest.len();
-    if behind < others.len() {
-        return others[behind * STRIDE % others.len()].clone();
-    }
-    any::input(random)
+    let chosen = fixed().input(index);
+    chosen.unwrap_or_else(|| any::input(random))
 }
 
 /// Records up to this size, and then one of negative length.

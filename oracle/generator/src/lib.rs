@@ -3,6 +3,7 @@
 mod body;
 mod extension;
 mod finishes;
+mod fixed;
 mod integer;
 mod integer_lines;
 mod lengths;
@@ -14,6 +15,7 @@ mod random;
 mod record;
 mod record_lines;
 mod short;
+mod skips;
 
 pub use integer_lines::integer_lines;
 pub use random::Random;
@@ -47,9 +49,11 @@ pub enum Sort {
     Reels,
     /// Negative lengths of Messages and extensions: a fixed list first, then some behind other records.
     Lengths,
+    /// TickSkips, and players behind them in any order: a fixed list first, then walks.
+    Skips,
 }
 
-pub const SORTS: [Sort; 12] = [
+pub const SORTS: [Sort; 13] = [
     Sort::Match,
     Sort::Moves,
     Sort::Inputs,
@@ -62,6 +66,7 @@ pub const SORTS: [Sort; 12] = [
     Sort::Finishes,
     Sort::Reels,
     Sort::Lengths,
+    Sort::Skips,
 ];
 
 impl Sort {
@@ -79,6 +84,7 @@ impl Sort {
             Sort::Finishes => "finishes",
             Sort::Reels => "reels",
             Sort::Lengths => "lengths",
+            Sort::Skips => "skips",
         }
     }
     pub fn named(name: &str) -> Option<Sort> {
@@ -110,6 +116,7 @@ pub fn input(sort: Sort, seed: u64, index: u64) -> Vec<u8> {
         Sort::Finishes => finishes::input(index, &mut random),
         Sort::Reels => play::reels(&mut random),
         Sort::Lengths => lengths::input(index, &mut random),
+        Sort::Skips => skips::input(index, &mut random),
     }
 }
 
@@ -127,5 +134,6 @@ pub fn sized(sort: Sort, seed: u64, size: usize) -> Vec<u8> {
         Sort::Finishes => finishes::sized(size, &mut random),
         Sort::Reels => play::sized(Style::Reels, size, &mut random),
         Sort::Lengths => lengths::sized(size, &mut random),
+        Sort::Skips => skips::sized(size, &mut random),
     }
 }

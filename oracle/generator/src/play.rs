@@ -162,7 +162,8 @@ impl Play {
             true => Some(Step::Diff),
         }
     }
-    /// A tick follows from a client that does not rise; where none comes, or at will, a TickSkip says it.
+    /// A tick follows from a client that does not rise; where none comes, or at will, a TickSkip says it. It forgets the client, so that
+    /// a tick in which nobody acts behind one is not ended by the next.
     fn begin_tick(&mut self, first: Option<usize>, random: &mut Random) {
         let implied = match (first, self.last_player) {
             (Some(first), Some(last)) => first <= last,

@@ -4,8 +4,10 @@ use crate::batch::Batch;
 use crate::expected::expected;
 use crate::expected::Left;
 use crate::goings::Goings;
+use crate::invalid;
 use crate::lists::Lists;
 use crate::rewinds::Rewinds;
+use crate::skips::Skips;
 use crate::subject::Subject;
 use crate::subject::Task;
 use generator::Sort;
@@ -30,17 +32,31 @@ struct Count {
     negative: u64,
     client: u64,
     too_long: u64,
+    skips: Skips,
     differences: u64,
 }
 
-pub fn command(count: u64, seed: u64, programs: &Programs) -> io::Result<ExitCode> {
+/// The sorts named, with spaces between; all if none is.
+pub fn sorts(names: &str) -> io::Result<Vec<Sort>> {
+    let named = |name| Sort::named(name).ok_or_else(|| invalid(&format!("{name} is not a sort")));
+    let chosen: Vec<Sort> = names
+        .split_whitespace()
+        .map(named)
+        .collect::<Result<_, _>>()?;
+    if chosen.is_empty() {
+        return Ok(generator::SORTS.to_vec());
+    }
+    Ok(chosen)
+}
+
+pub fn command(count: u64, seed: u64, sorts: &[Sort], programs: &Programs) -> io::Result<ExitCode> {
     let mut total = Count::default();
     let mut batch = Batch::new(programs.lookups);
     let mut lists = Lists::new(programs.ladder);
     let mut rewinds = Rewinds::new(programs.rewind);
     let mut goings = Goings::new(programs.going);
     let mut parts = Vec::new();
-    for sort in generator::SORTS {
+    for &sort in sorts {
         let inputs = sort_count(sort, count);
         for index in 0..inputs {
             let input = generator::input(sort, seed, index);
@@ -91,6 +107,7 @@ fn compare_one(program: &str, input: &[u8], origin: &str, total: &mut Count) -> 
     };
     let wanted = expected(input);
     total.inputs += 1;
+    total.skips.add(input);
     total.negative += u64::from(wanted.text.ends_with("refused 21\n"));
     total.client += u64::from(wanted.left == Some(Left::Client));
     total.too_long += u64::from(wanted.left == Some(Left::TooLong));
@@ -106,10 +123,12 @@ fn compare_one(program: &str, input: &[u8], origin: &str, total: &mut Count) -> 
 
 fn summary(seed: u64, parts: &[String], total: &Count) -> String {
     format!(
-        "replay: seed {seed}; {}; {} inputs, of which {} end in refused 21; left the domain: {} by refused 10, {} by too long; differences: {}",
+        "replay: seed {seed}; {}; {} inputs, of which {} end in refused 21; TickSkips before a player: inside a tick {}, outside {}; left the domain: {} by refused 10, {} by too long; differences: {}",
         parts.join(", "),
         total.inputs,
         total.negative,
+        total.skips.inside,
+        total.skips.outside,
         total.client,
         total.too_long,
         total.differences

@@ -25,6 +25,7 @@ pub mod rewinds;
 pub mod run;
 pub mod scripts;
 pub mod shrink;
+pub mod skips;
 pub mod stage;
 pub mod subject;
 pub mod text;

@@ -77,7 +77,8 @@ fn command(words: &[&str]) -> io::Result<ExitCode> {
                 rewind,
                 going,
             };
-            return compare::command(number(count)?, number(seed)?, &programs);
+            let sorts = compare::sorts(&std::env::var("SORTS").unwrap_or_default())?;
+            return compare::command(number(count)?, number(seed)?, &sorts, &programs);
         }
         _ => return Err(invalid(USAGE)),
     }

@@ -71,14 +71,14 @@ fn first_listing() {
     rewinds(&body, None, &[0, 2, 5, i32::MAX], &gone.repeat(4));
 }
 
-/// start 0, new 5 0 0, end 0, start 1, end 1, start 2, new 2 0 0, end 2
+/// start 0, new 5 0 0, end 0, start 1, new 2 0 0, end 1
 #[test]
 fn second_listing() {
     rewinds(
         &["01 42 05 00 00 41 00 42 02 00 00 40"],
         None,
-        &[2, 1, 0, 3],
-        "board 2\nplayer 5 0 0\nended\nboard 1\nplayer 5 0 0\nended\nboard 0\nended\nrefused 20\n",
+        &[1, 0, 2],
+        "board 1\nplayer 5 0 0\nended\nboard 0\nended\nrefused 20\n",
     );
 }
 
