@@ -9,17 +9,11 @@ use Rattle.state.specs.Laws.{ForgetsBetween, ReadersForgetBetween}
 use Rattle.state.specs.Acts.{Act, ReadAct}
 use Rattle.state.specs.Acts as act
 use Rattle.state.specs.declared.Entries.{Entries}
-use Rattle.state.specs.declared.Pending.{Pending}
-use Rattle.state.specs.declared.Pending.the-variants.{Is, NoKind}
 use Rattle.state.specs.declared.Standing.{Standing}
 use Rattle.state.specs.declared.Standing.the-variants.{Open}
 use Rattle.state.specs.declared.Scalars.{Scalars}
 use Rattle.state.specs.declared.Reader.{Reader}
 use Rattle.state.proofs.Acts.{read-acts}
-
-abbrev isKind : Pending → Bool
-isKind (Is k) = true
-isKind NoKind = false
 
 -- closed, or inside a tick: nothing is claimed
 module _ {A : Type 0} where
@@ -40,7 +34,7 @@ module _ {s : Scalars} {e : Entries} {w : List ℕ} {last : Bool} (m : Memory) (
   forgets (act.refuses13 _ _ b p) = closed refl
   forgets (act.tickStarts h q o) = λ _. inside refl
   forgets (act.tickEnds h p i b x) = λ _ _ _. refl
-  forgets (act.lastTickEnds h i) = λ _ _ p. absurd (false≢true (sym (ap isKind p)))
+  forgets (act.lastTickEnds h i) = λ _ _ p. absurd (false≢true cc)
   forgets (act.skipStarts h o x) = λ _. inside refl
   forgets (act.skipEnds h i x) = λ _ _ _. refl
   forgets (act.playerComes h i b o) = λ _. inside (i .inside)
