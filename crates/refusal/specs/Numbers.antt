@@ -25,6 +25,8 @@ use Rattle.refusal.specs.declared.Refusal.the-variants.{
   NotLast,
   TickGone,
   NegativeLength,
+  MidRecord,
+  Unreachable,
 }
 
 abbrev pub numbered : Refusal → ℕ × List ℤ
@@ -49,6 +51,8 @@ numbered Closed = (18, [])
 numbered NotLast = (19, [])
 numbered TickGone = (20, [])
 numbered NegativeLength = (21, [])
+numbered MidRecord = (22, [])
+numbered Unreachable = (23, [])
 
 abbrev pub numberOf : Refusal → ℕ
 numberOf r = numbered r .0

@@ -25,6 +25,8 @@ pub enum Refusal {
     NotLast,
     TickGone,
     NegativeLength,
+    MidRecord,
+    Unreachable,
 }
 
 impl Refusal {
@@ -53,6 +55,8 @@ impl Refusal {
             Refusal::NotLast => 19,
             Refusal::TickGone => 20,
             Refusal::NegativeLength => 21,
+            Refusal::MidRecord => 22,
+            Refusal::Unreachable => 23,
         }
     }
 }

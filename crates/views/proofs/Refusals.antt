@@ -28,6 +28,8 @@ use Rattle.refusal.specs.declared.Refusal.the-variants.{
   NotLast,
   TickGone,
   NegativeLength,
+  MidRecord,
+  Unreachable,
 }
 use Rattle.item.specs.Said.{refusing}
 use Rattle.views.specs.Shown.{RefusalsShown}
@@ -56,9 +58,11 @@ refusalBy n vs =
     ∷ Closed
     ∷ NotLast
     ∷ TickGone
+    ∷ NegativeLength
+    ∷ MidRecord
     ∷ [])
     (n - 1)
-    NegativeLength
+    Unreachable
 
 pub by-number : (r : Refusal) → refusalBy (numberOf r) (valuesOf r) ≡ r
 by-number WrongMagic = refl
@@ -82,6 +86,8 @@ by-number Closed = refl
 by-number NotLast = refl
 by-number TickGone = refl
 by-number NegativeLength = refl
+by-number MidRecord = refl
+by-number Unreachable = refl
 
 pub refusals-shown : RefusalsShown
 refusals-shown a b n v = sym (by-number a) ∙ rw (n, v, by-number b)
