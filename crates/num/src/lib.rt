@@ -2,7 +2,7 @@
 ghost use mathlib.Core.Path.{_≡_};
 ghost use mir.Syntax.{w32};
 ghost use mir.Val.{toZ, ofZ, SFits};
-ghost use lib.IntN.{_+ℤ_};
+ghost use lib.IntN.{_+ℤ_, _-ℤ_};
 ghost use Rattle.num.specs.Wrap.{wrap32};
 
 // The bits of x.
@@ -29,4 +29,12 @@ pub fn wrapping_add(a: i32, b: i32) -> i32
     ensures { λ r. ⌜ SFits w32 r ⌝ }
 {
     signed(std::num::wrapping_add_u32(bits(a), bits(b)))
+}
+
+// a - b, modulo 2^32.
+pub fn wrapping_sub(a: i32, b: i32) -> i32
+    ensures { λ r. ⌜ r ≡ wrap32 (a -ℤ b) ⌝ }
+    ensures { λ r. ⌜ SFits w32 r ⌝ }
+{
+    signed(std::num::wrapping_sub_u32(bits(a), bits(b)))
 }
