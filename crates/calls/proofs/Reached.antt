@@ -1,18 +1,15 @@
 -- What holds of every reader reached by reading. Assumes nothing.
 use mathlib.Core.Path.{refl}
-use mathlib.Core.List.{List, [], _∷_}
 use Rattle.state.specs.State.{emptyReader}
-use Rattle.state.specs.Laws.{ForgetsBetween}
-use Rattle.state.specs.declared.Reader.{Reader}
-use Rattle.state.proofs.Theorems.{readers-forget-between}
-use Rattle.calls.specs.Calls.{Call, next, after}
-use Rattle.calls.specs.Laws.{ReachedForgetBetween}
+use Rattle.state.specs.Laws.{Sound, ForgetsBetween}
+use Rattle.state.proofs.Theorems.{empty-sound, readers-stay-sound, readers-forget-between}
+use Rattle.calls.specs.Laws.{ReachedSound, ReachedForgetBetween}
+use Rattle.calls.proofs.Rise.{lists-keep}
 
-after-forgets : (r : Reader) (list : List Call) → ForgetsBetween (r .scalars) → ForgetsBetween (after r list .scalars)
-unfolding after
-after-forgets r [] f = f
-after-forgets r (c ∷ list) f = after-forgets (next r c) list (readers-forget-between r (c .window) (c .last) f)
+pub reached-sound : ReachedSound
+reached-sound v list = lists-keep Sound (λ r c. readers-stay-sound r (c .window) (c .last)) (emptyReader v) list (empty-sound v)
 
 pub reached-forget-between : ReachedForgetBetween
 unfolding emptyReader
-reached-forget-between v list = after-forgets (emptyReader v) list (λ _ _ _. refl)
+reached-forget-between v list =
+    lists-keep (λ r. ForgetsBetween (r .scalars)) (λ r c. readers-forget-between r (c .window) (c .last)) (emptyReader v) list (λ _ _ _. refl)

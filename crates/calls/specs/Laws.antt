@@ -8,7 +8,7 @@ use Rattle.item.specs.Said.{Said, gives, more, finish, refuses}
 use Rattle.kinds.specs.declared.Version.{Version}
 use Rattle.state.specs.State.{emptyReader}
 use Rattle.state.specs.Reading.{Event, readCall, readerAfter}
-use Rattle.state.specs.Laws.{usedIn, ForgetsBetween}
+use Rattle.state.specs.Laws.{usedIn, Sound, ForgetsBetween}
 use Rattle.state.specs.declared.Reader.{Reader}
 use Rattle.calls.specs.Calls.{Call, Seen, after, events}
 use Rattle.calls.specs.Along.{Halt, isFull, wantsMore, finishes, isRefused, Run, along, enough}
@@ -37,6 +37,10 @@ CallLonger =
     (r : Reader) (w x : List ℕ) (last : Bool) → NotMore (readCall r w false .said) → readCall r (w ++ x) last ≡ readCall r w false
 
 -- ---- readers reached by reading: by any list of calls from an empty one
+
+-- each is good
+abbrev pub ReachedSound : Type 0
+ReachedSound = (v : Version) (list : List Call) → Sound (after (emptyReader v) list)
 
 -- an open one outside a tick, with nothing pending, remembers no client
 abbrev pub ReachedForgetBetween : Type 0

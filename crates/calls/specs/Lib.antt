@@ -1,3 +1,4 @@
 pub mod Calls
 pub mod Along
 pub mod Laws
+pub mod Never

@@ -19,6 +19,7 @@ use Rattle.state.proofs.Theorems.{open-call-keeps, readers-stay-sound}
 use Rattle.state.proofs.Acts.{read-acts}
 use Rattle.state.proofs.Calls.{keeps}
 use Rattle.calls.specs.Calls.{Call, call, next, Seen, after, events, eventOf}
+use Rattle.calls.proofs.Rise.{lists-keep}
 use Rattle.demand.specs.Events.{is13, meets13}
 use Rattle.rewinding.specs.Rewinding.{closedByRefusal}
 
@@ -35,9 +36,7 @@ events-append r [] b = sym (append-nil (events r b))
 events-append r (c ∷ a) b = ap (λ (l : List Seen). l ++ eventOf r c) (events-append (next r c) a b) ∙ append-assoc (events (after (next r c) a) b) (events (next r c) a) (eventOf r c)
 
 pub after-sound : (cs : List Call) {r : Reader} → Sound r → Sound (after r cs)
-unfolding after
-after-sound [] s = s
-after-sound (c ∷ cs) {r} s = after-sound cs (readers-stay-sound r (c .window) (c .last) s)
+after-sound cs {r} s = lists-keep Sound (λ q c. readers-stay-sound q (c .window) (c .last)) r cs s
 
 -- ---- one call
 
