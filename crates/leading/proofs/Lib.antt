@@ -1,0 +1,5 @@
+pub mod Found
+pub mod Takes
+pub mod Records
+pub mod Windows
+pub mod Theorems
