@@ -1,0 +1,121 @@
+-- What it tells that a wanted board is not refused. Assumes nothing.
+use Prim.Native.Nat.{ℕ, _<_}
+use mathlib.Core.Path.{_≡_, refl, sym, ap, _∙_}
+use mathlib.Core.Bool.{Bool, true, false, cond, _&&_, false≢true}
+use native.Mathlib.Omega.{arith}
+use lib.IntN.{ℤ, pos}
+use lib.Signed.{ltZ, nonNeg}
+use borrow.Author.Tests.{not-false}
+use Rattle.refusal.specs.declared.Refusal.{Refusal}
+use Rattle.refusal.specs.declared.Refusal.the-variants.{BadState, Closed, MidRecord, Unreachable}
+use Rattle.num.proofs.Cases.{by-bool}
+use Rattle.kinds.specs.declared.Cid.{Cid}
+use Rattle.state.specs.State.{sameInt, holds, goodScalars, goodEntries, goodReader}
+use Rattle.state.specs.Reading.{isClosed, atOrBelow}
+use Rattle.state.specs.Laws.{ForgetsBetween}
+use Rattle.state.specs.declared.Entries.{Entries}
+use Rattle.state.specs.declared.Pending.{Pending}
+use Rattle.state.specs.declared.Pending.the-variants.{Is, NoKind}
+use Rattle.state.specs.declared.Standing.{Standing}
+use Rattle.state.specs.declared.Standing.the-variants.{Open, Finished, Refused}
+use Rattle.state.specs.declared.Reader.{Reader}
+use Rattle.state.proofs.Goods.{good-tick}
+use Rattle.calls.specs.Calls.{isPending}
+use Rattle.back.specs.Board.{board, goodBoard}
+use Rattle.back.specs.declared.BoardTick.the-variants.{In}
+use Rattle.demand.proofs.Tests.{and-true, and-both, or-false, same-refl, every-at}
+use Rattle.choice.specs.Chosen.{playerOf, samePlayer}
+use Rattle.choice.specs.Reaching.{losesInput, differsBehind, playerBehind, cantReach, May, may, mayNot, mayReach}
+use Rattle.leading.specs.Records.{Rises}
+
+-- ---- one test after the other
+
+passes : (why : Refusal) (t : Bool) {x : May} → cond t x (mayNot why) ≡ may → (t ≡ true) × (x ≡ may)
+passes why true e = (refl, e)
+passes why false e = let z : _≡_ {A = ℕ} 0 1 = cc in absurd (omega arith)
+
+avoids : (why : Refusal) (t : Bool) {x : May} → cond t (mayNot why) x ≡ may → (t ≡ false) × (x ≡ may)
+avoids why true e = let z : _≡_ {A = ℕ} 0 1 = cc in absurd (omega arith)
+avoids why false e = (refl, e)
+
+not-closed : (s : Standing) → isClosed s ≡ false → s ≡ Open
+not-closed Open e = refl
+not-closed Finished e = absurd (false≢true (sym e))
+not-closed Refused e = absurd (false≢true (sym e))
+
+not-pending : (p : Pending) → isPending p ≡ false → p ≡ NoKind
+not-pending NoKind e = refl
+not-pending (Is k) e = absurd (false≢true (sym e))
+
+second-false : (a b : Bool) → a && b ≡ false → a ≡ true → b ≡ false
+second-false a b e t = rw t at e
+
+-- ---- what can't be done doesn't hold
+
+module _ (e w : Entries) where
+  inputs-kept : losesInput e w ≡ false → (c : ℕ) → c < 128 → holds e c ≡ true → holds w c ≡ true
+  unfolding losesInput
+  inputs-kept f c h t =
+      let a : cond (holds e c) (holds w c) true ≡ true =
+      every-at 128 (λ k. cond (holds e k) (holds w k) true) (not-false _ f) c h in
+      rw t at a
+
+  -- a player entry that differs is above the remembered client
+  differs-above : (p : Cid) → differsBehind p e w ≡ false → (c : ℕ) → c < 128 → samePlayer (playerOf e c) (playerOf w c) ≡ false
+      → atOrBelow (pos c) p ≡ false
+  unfolding differsBehind
+  differs-above p f c h d =
+      let a : cond (atOrBelow (pos c) p) (samePlayer (playerOf e c) (playerOf w c)) true ≡ true =
+      every-at 128 (λ k. cond (atOrBelow (pos k) p) (samePlayer (playerOf e k) (playerOf w k)) true) (not-false _ f) c h in
+      by-bool (atOrBelow (pos c) p) (λ t. absurd (false≢true (sym d ∙ rw t at a))) (λ t. t)
+
+-- ---- a wanted board, tick u and entries w
+
+pub record Allowed (r : Reader) (u : ℤ) (w : Entries) : Type 0 where
+  pub now : goodEntries (r .entries) ≡ true
+  pub wanted : goodEntries w ≡ true
+  pub reads : r .scalars .standing ≡ Open
+  pub free : r .scalars .pending ≡ NoKind
+  pub tick : nonNeg (r .scalars .tick) ≡ true
+  pub to-tick : nonNeg u ≡ true
+  pub later : ltZ u (r .scalars .tick) ≡ false
+  pub kept : (c : ℕ) → c < 128 → holds (r .entries) c ≡ true → holds w c ≡ true
+  pub behind : playerBehind (r .scalars) (r .entries) u w ≡ false
+
+pub allowed : (r : Reader) (u : ℤ) (w : Entries) → mayReach r (board (In u) w) ≡ may → Allowed r u w
+unfolding mayReach goodReader goodBoard
+allowed r u w m =
+    let a = passes BadState (goodReader r && goodBoard (board (In u) w)) m in
+    let b = avoids Closed (isClosed (r .scalars .standing)) (a .1) in
+    let c = avoids MidRecord (isPending (r .scalars .pending)) (b .1) in
+    let d = avoids Unreachable (cantReach (r .scalars) (r .entries) u w) (c .1) in
+    let good = and-true (goodReader r) (goodBoard (board (In u) w)) (a .0) in
+    let mine = and-true (goodScalars (r .scalars)) (goodEntries (r .entries)) (good .0) in
+    let its = and-true (nonNeg u) (goodEntries w) (good .1) in
+    let can = or-false _ _ (d .0) in
+    let rest = or-false _ _ (can .1) in
+    record {
+      now = mine .1;
+      wanted = its .1;
+      reads = not-closed (r .scalars .standing) (b .0);
+      free = not-pending (r .scalars .pending) (c .0);
+      tick = good-tick (r .scalars) (mine .0);
+      to-tick = its .0;
+      later = can .0;
+      kept = inputs-kept (r .entries) w (rest .0);
+      behind = rest .1;
+    }
+
+-- at the wanted tick each player entry that differs is above the remembered client
+module _ (r : Reader) (u : ℤ) (w : Entries) (a : Allowed r u w) (f : ForgetsBetween (r .scalars)) (here : r .scalars .tick ≡ u) where
+  inside-rises : r .scalars .inside ≡ true → (c : ℕ) → c < 128 → samePlayer (playerOf (r .entries) c) (playerOf w c) ≡ false → Rises r c
+  inside-rises i =
+      let t : r .scalars .inside && sameInt u (r .scalars .tick) ≡ true =
+      and-both _ _ i (ap (sameInt u) here ∙ same-refl u) in
+      differs-above (r .entries) w (r .scalars .remembered) (second-false _ _ (a .behind) t)
+
+  outside-rises : r .scalars .inside ≡ false → (c : ℕ) → Rises r c
+  outside-rises o c = ap (atOrBelow (pos c)) (f (a .reads) o (a .free))
+
+  pub rises-here : (c : ℕ) → c < 128 → samePlayer (playerOf (r .entries) c) (playerOf w c) ≡ false → Rises r c
+  rises-here c h d = by-bool (r .scalars .inside) (λ i. inside-rises i c h d) (λ o. outside-rises o c)

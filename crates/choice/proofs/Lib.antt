@@ -1,0 +1,11 @@
+pub mod Lengths
+pub mod Splice
+pub mod Passes
+pub mod Players
+pub mod Inputs
+pub mod Allowed
+pub mod Skips
+pub mod Reaches
+pub mod Cant
+pub mod Nothing
+pub mod Theorems

@@ -1,0 +1,3 @@
+pub mod Chosen
+pub mod Reaching
+pub mod Laws
