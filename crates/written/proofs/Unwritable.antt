@@ -99,7 +99,7 @@ none-of g test never zero ms = refl
 none-of g test never (suc n) [] = refl
 none-of g test never (suc n) (m ∷ ms) = rw never (none-of g test never n ms)
 
-all-of : (n : ℕ) (ms : List (Value (List ℕ))) → allWritable (replicate n int) ms ≡ true
+pub all-of : (n : ℕ) (ms : List (Value (List ℕ))) → allWritable (replicate n int) ms ≡ true
 all-of zero ms = refl
 all-of (suc n) [] = refl
 all-of (suc n) (m ∷ ms) = all-of n ms
