@@ -56,7 +56,7 @@ unfolding bytesOf
 bytes-append [] ys = refl
 bytes-append (x ∷ xs) ys = rw (bytes-append xs ys) (sym (append-assoc (writeContent x) (bytesOf xs) (bytesOf ys)))
 
-bytes-append-le : (xs ys : List Rec) (m n : ℕ) → length (bytesOf xs) ≤ m → length (bytesOf ys) ≤ n → length (bytesOf (xs ++ ys)) ≤ m + n
+pub bytes-append-le : (xs ys : List Rec) (m n : ℕ) → length (bytesOf xs) ≤ m → length (bytesOf ys) ≤ n → length (bytesOf (xs ++ ys)) ≤ m + n
 bytes-append-le xs ys m n h k = rw (bytes-append xs ys, length-append) (omega arith)
 
 pub joined-le : (n : ℕ) (f : ℕ → List Rec) (k : ℕ) → ((i : ℕ) → i < n → length (bytesOf (f i)) ≤ k) → length (bytesOf (joined n f)) ≤ n * k
@@ -221,7 +221,7 @@ players-le e w n h = joined-le n (playerFor e w) 15 (λ c g. player-le c (player
 pub inputs-le : (e w : Entries) (n : ℕ) → length (bytesOf (joined n (inputFor e w))) ≤ n * 60
 inputs-le e w n = joined-le n (inputFor e w) 60 (λ c g. input-for-le e w c)
 
-changes-le : (e w : Entries) → length (bytesOf (changes e w)) ≤ 9600
+pub changes-le : (e w : Entries) → length (bytesOf (changes e w)) ≤ 9600
 unfolding changes
 changes-le e w =
     bytes-append-le _ _ 1920 7680

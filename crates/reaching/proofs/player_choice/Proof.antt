@@ -1,0 +1,12 @@
+-- `reaching::player_choice` meets its contract. Assumes nothing.
+use borrow.Author.Needs.{needs}
+use Rattle.reaching.proofs.player_choice.Statement.{statement}
+use Rattle.reaching.proofs.player_choice.Tie as tie
+
+returns : tie.Need-returns
+returns c held inputs wheld winputs =
+    rw (c .before .before .player-at .ensures held inputs, c .before .player-at2 .ensures wheld winputs) at (c .player-step .ensures)
+
+pub player-choice-spec : {M : Type 1} → statement M
+player-choice-spec =
+    tie.close (tie.spec (λ c. search needs) (λ c κs. search needs) (λ c κs. search needs) (λ c κs. search needs) returns)

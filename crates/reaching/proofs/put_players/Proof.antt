@@ -1,0 +1,81 @@
+-- `reaching::put_players` meets its contract. The loop's invariant: the records of the clients below `c` were put. Assumes nothing.
+use Prim.Native.Nat.{ℕ, _≤_, _<_, _-_}
+use mathlib.Core.Path.{_≡_, ap, _∙_, subst}
+use mathlib.Core.List.{List, []}
+use native.Mathlib.Omega.{arith}
+use lib.ListN.{length}
+use borrow.Author.Needs.{needs}
+use Rattle.packer.proofs.Joined.{written-length}
+use Rattle.record_writer.specs.steps.Puts.{PutsBytes}
+use Rattle.state.specs.State.{entriesWith}
+use Rattle.choice.specs.Chosen.{Rec, playerOf, playerFor, joined, bytesOf}
+use Rattle.choice.proofs.Lengths.{player-le}
+use Rattle.reaching.proofs.Putting.{nothing-yet, all-fit, turn-ready, turn-put}
+use Rattle.reaching.proofs.put_players.Statement.{statement}
+use Rattle.reaching.proofs.put_players.Tie as tie
+
+abbrev Inv-loop : tie.InvT-loop
+Inv-loop version marks xs ys wmarks wxs wys out₀ at next₀ c₀ out next c =
+    (c ≤ 128)
+    × PutsBytes out₀ at (bytesOf (joined c (playerFor (entriesWith marks xs ys [] []) (entriesWith wmarks wxs wys [] [])))) next out
+
+abbrev μ-loop : tie.MeasureT-loop
+μ-loop version marks xs ys wmarks wxs wys out₀ at next₀ c₀ out next c = 128 - c
+
+-- the records of each client, and that they are short
+abbrev steps : tie.Start Inv-loop μ-loop → ℕ → List Rec
+steps c =
+    let a = c .args in
+    playerFor (entriesWith (a .marks .now) (a .xs .now) (a .ys .now) [] []) (entriesWith (a .wmarks .now) (a .wxs .now) (a .wys .now) [] [])
+
+small : (st : tie.Start Inv-loop μ-loop) (i : ℕ) → i < 128 → length (bytesOf (steps st i)) ≤ 15
+small st i h =
+    let a = st .args in
+    let e = entriesWith (a .marks .now) (a .xs .now) (a .ys .now) [] [] in
+    let w = entriesWith (a .wmarks .now) (a .wxs .now) (a .wys .now) [] [] in
+    player-le i (playerOf e i) (playerOf w i) h
+
+put-requires : tie.Need-put-requires Inv-loop μ-loop
+put-requires c κs =
+    let st = c .before .before .before .before .before in
+    let l = c .before .before .before .loop in
+    turn-ready (steps st) 128 15 (small st) (st .args .out .now) (st .args .at) (st .pre) (l .c) (omega arith) (l .next) (l .out) (l .inv .1) _
+    (c .before .player-choice .ensures [] [] [] [])
+
+loop-again : tie.Need-loop-again Inv-loop μ-loop
+loop-again c =
+    let st = c .before .before .before .before .before .before .before .before in
+    let l = c .before .before .before .before .before .before .loop in (
+      omega arith,
+      turn-put (steps st) 128 15 (small st) (st .args .out .now) (st .args .at) (st .pre) (l .c) (omega arith) (l .next) (l .out) (l .inv .1) _
+          (c .before .before .before .before .player-choice .ensures [] [] [] []) _ _ (c .before .before .put .ensures),
+    )
+
+same-length : tie.Need-same-length Inv-loop μ-loop
+same-length c =
+    let st = c .before .before .before in
+    let l = c .before .loop in
+    ap length (l .inv .1 .1) ∙ written-length (st .args .out .now) (st .args .at) (bytesOf (joined (l .c) (steps st)))
+    (all-fit (steps st) 128 15 (small st) (st .args .out .now) (st .args .at) (st .pre) (l .c) (l .inv .0))
+
+returns : tie.Need-returns Inv-loop μ-loop
+returns c held inputs wheld winputs =
+    let l = c .before .loop in
+    let st = c .before .before .before in
+    let e : l .c ≡ 128 = omega arith in
+    subst (λ (n : ℕ). PutsBytes (st .args .out .now) (st .args .at) (bytesOf (joined n (steps st))) (l .next) (l .out)) e (l .inv .1)
+
+pub put-players-spec : {M : Type 1} → statement M
+put-players-spec =
+    tie.close
+    (tie.spec
+    Inv-loop
+    μ-loop
+    (λ c. (omega arith, nothing-yet _ _ _ (omega arith)))
+    (λ c κs. search needs)
+    put-requires
+    (λ c. search needs)
+    (λ c. search needs)
+    loop-again
+    same-length
+    returns)

@@ -1,0 +1,66 @@
+-- `reaching::reach_lent` meets its contract. Assumes nothing.
+use mathlib.Core.Path.{_≡_, _∙_, subst}
+use native.Mathlib.Omega.{arith}
+use mir.Syntax.{w32}
+use mir.Val.{toZ, ofZ}
+use borrow.Author.Needs.{needs}
+use Rattle.state.specs.State.{entriesWith, readerWith}
+use Rattle.state.specs.declared.Reader.{Reader}
+use Rattle.back.specs.Board.{board}
+use Rattle.back.specs.declared.Board.{Board}
+use Rattle.back.specs.declared.BoardTick.the-variants.{In}
+use Rattle.choice.specs.Chosen.{chosen, bytesOf}
+use Rattle.choice.specs.Reaching.{may, mayReach}
+use Rattle.choice.proofs.Lengths.{chosen-le}
+use Rattle.reaching.specs.steps.Puts.{AllowedIs}
+use Rattle.reaching.specs.declared.Allowed.{Allowed}
+use Rattle.reaching.proofs.Answers.{reach-refused, reach-done}
+use Rattle.reaching.proofs.Putting.{front-shown}
+use Rattle.reaching.proofs.reach_lent.Statement.{statement}
+use Rattle.reaching.proofs.reach_lent.Tie as tie
+
+abbrev reader : tie.Start → Reader
+reader c = let a = c .args in readerWith (a .s) (entriesWith (a .marks .now) (a .xs .now) (a .ys .now) (a .held .now) (a .inputs .now))
+
+abbrev wanted : tie.Start → Board
+wanted c = let a = c .args in board (a .tick) (entriesWith (a .wmarks .now) (a .wxs .now) (a .wys .now) (a .wheld .now) (a .winputs .now))
+
+returns : tie.Need-returns
+returns c =
+    let st = c .before .before .before .before .before in
+    let g = c .before .allowed .given in
+    reach-refused (reader st) (wanted st) (st .args .out .now) _
+    (subst (λ (x : Allowed). AllowedIs (st .args .tick) x (mayReach (reader st) (wanted st))) (g .1) (c .before .before .before .may-reach .ensures))
+
+returns-2 : tie.Need-returns-2
+returns-2 c =
+    let n = c .before .before .before .before .before .before .before in
+    let st = n .before .before .before .before .before .before .before .before in
+    let r = reader st in
+    let b = wanted st in
+    let g = n .before .before .before .before .allowed2 .given in
+    let u : toZ w32 (ofZ w32 (g .0 .0)) ≡ g .0 .0 = search needs in
+    let m : (mayReach r b ≡ may) × (b .tick ≡ In (g .0 .0)) =
+    subst (λ (x : Allowed). AllowedIs (st .args .tick) x (mayReach r b)) (g .1) (n .before .before .before .before .before .before .may-reach .ensures) in
+    let p = rw u at (n .put-all .ensures) in
+    let bs = bytesOf (chosen (r .scalars) (r .entries) (g .0 .0) (b .entries)) in
+    let f = front-shown (n .before .before .memory .result) bs (omega (arith, chosen-le (r .scalars) (r .entries) (g .0 .0) (b .entries), n .before .before .memory .ensures)) _ _ p in
+    let w = c .before .before .write-raw .ensures in
+    reach-done r b (st .args .out .now) (g .0 .0) (m .0) (m .1) _ _ _ (c .before .before .before .before .show .ensures ∙ f) (w .0) (w .1)
+
+pub reach-lent-spec : {M : Type 1} → statement M
+reach-lent-spec =
+    tie.close
+    (tie.spec
+    (λ c κs. search needs)
+    (λ c. search needs)
+    (λ c. search needs)
+    (λ c κs. search needs)
+    (λ c. search needs)
+    (λ c κs. search needs)
+    (λ c. search needs)
+    (λ c κs. search needs)
+    (λ c κs. search needs)
+    returns
+    (λ c. search needs)
+    returns-2)
