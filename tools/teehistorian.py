@@ -148,14 +148,19 @@ def pass_on(program, feeder):
     return next((n for word, n in LAST if last.startswith(word)), NO_LAST_LINE)
 
 
-def run(words, fd):
+def body_of(fd):
+    """The version byte and the first bytes of a recording's body, the pieces behind them, and what the recording is packed with, if it is."""
     chunks, packed = recording(chunks_of(fd))
     chunks = iter(chunks)
     header, start = split_header(chunks)
-    version = version_of(header)
+    return bytes([version_of(header)]) + start, chunks, packed
+
+
+def run(words, fd):
+    start, chunks, packed = body_of(fd)
     program = subprocess.Popen([words[0], *words[2:]], stdin=subprocess.PIPE, stdout=subprocess.PIPE, bufsize=0)
     try:
-        feeder = Feeder(program.stdin, bytes([version]) + start, chunks, packed)
+        feeder = Feeder(program.stdin, start, chunks, packed)
         return pass_on(program, feeder)
     except BrokenPipeError:
         # whoever reads the lines may stop early

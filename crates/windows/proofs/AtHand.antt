@@ -26,7 +26,7 @@ abbrev pub Fits : Bool → List ℕ → List ℕ → Type 0
 Fits true w z = (z ≡ []) × (length w < full)
 Fits false w z = length w ≤ full
 
-window-longer : (w z : List ℕ) → length w ≤ full → windowOf (w ++ z) ≡ w ++ take (full - length w) z
+pub window-longer : (w z : List ℕ) → length w ≤ full → windowOf (w ++ z) ≡ w ++ take (full - length w) z
 window-longer w z h =
     let e : full ≡ length w + (full - length w) = omega arith in
     ap (λ (n : ℕ). take n (w ++ z)) e ∙ take-append-add w z (full - length w)

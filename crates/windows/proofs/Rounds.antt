@@ -23,7 +23,7 @@ use Rattle.calls.proofs.Ranks.{rank, rank-le}
 use Rattle.windows.proofs.EnoughTurns.{run-falls, left-after, sum-le, M}
 
 -- all the bytes that are left
-abbrev bodyOf : Input → List ℕ
+abbrev pub bodyOf : Input → List ℕ
 bodyOf i = i .hand ++ allPieces (i .pieces)
 
 -- no piece comes where the input has ended
@@ -43,7 +43,7 @@ module _ (room : List ℕ → ℕ) (r : Reader) (i : Input) (o : lastRound i (ro
   used-le : run .used ≤ length (i .hand)
   used-le = omega (arith, left .1, length-take full (i .hand))
 
-  rest-is : drop (run .used) (bodyOf i) ≡ drop (run .used) (i .hand) ++ allPieces (i .pieces)
+  pub rest-is : drop (run .used) (bodyOf i) ≡ drop (run .used) (i .hand) ++ allPieces (i .pieces)
   rest-is = drop-append-le (run .used) (i .hand) (allPieces (i .pieces)) used-le
 
   falls : M (run .reader) (drop (run .used) (bodyOf i)) + length (run .seen) ≤ M r (bodyOf i)
@@ -53,7 +53,7 @@ module _ (room : List ℕ → ℕ) (r : Reader) (i : Input) (o : lastRound i (ro
 
 -- ---- the input after it
 
-body-after : (w : Bool) (used : ℕ) (hand : List ℕ) (ended : Bool) (ps : List (List ℕ))
+pub body-after : (w : Bool) (used : ℕ) (hand : List ℕ) (ended : Bool) (ps : List (List ℕ))
     → drop used hand ++ allPieces ps ≡ bodyOf (inputAfter w used (record { hand = hand; ended = ended; pieces = ps }))
 unfolding allPieces
 body-after true used hand ended [] = refl
@@ -68,11 +68,11 @@ sound-after false used hand ended ps s e = s e
 
 -- ---- how many rounds there may be
 
-reads : Bool → ℕ
+unfoldable pub reads : Bool → ℕ
 reads true = 0
 reads false = 1
 
-abbrev size : Reader → Input → ℕ
+abbrev pub size : Reader → Input → ℕ
 size r i = M r (bodyOf i) + length (i .pieces) + reads (i .ended)
 
 -- a round that neither ends the reading nor wants more gives an event
@@ -100,7 +100,7 @@ unfolding reads
 after-read used hand ended [] e = rw e (omega arith)
 after-read used hand ended (p ∷ ps) e = rw e (omega arith)
 
-smaller : (w : Bool) (room : List ℕ → ℕ) (r : Reader) (i : Input) → lastRound i (roundOf room r i) ≡ false → wantsRead i (roundOf room r i) ≡ w
+pub smaller : (w : Bool) (room : List ℕ → ℕ) (r : Reader) (i : Input) → lastRound i (roundOf room r i) ≡ false → wantsRead i (roundOf room r i) ≡ w
     → size (roundOf room r i .reader) (inputAfter w (roundOf room r i .used) i) < size r i
 smaller true room r i o e =
     let run = roundOf room r i in

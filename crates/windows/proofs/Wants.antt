@@ -38,7 +38,7 @@ at-more (suc n) r w last h =
     rw (← drop-drop (run .used) m w) (at-more n (readerAfter t) (drop m w) last g))
     h
 
-wants-is : (s : Bool) (h : Halt) → wants s h ≡ true → (s ≡ true) × (h ≡ wantsMore)
+pub wants-is : (s : Bool) (h : Halt) → wants s h ≡ true → (s ≡ true) × (h ≡ wantsMore)
 wants-is s isFull e = absurd (false≢true e)
 wants-is s wantsMore e = (e, refl)
 wants-is s finishes e = absurd (false≢true e)

@@ -1,0 +1,3 @@
+pub mod OneTurn
+pub mod Whole
+pub mod Theorems
