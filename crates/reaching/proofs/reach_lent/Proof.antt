@@ -25,8 +25,11 @@ reader c = let a = c .args in readerWith (a .s) (entriesWith (a .marks .now) (a 
 abbrev wanted : tie.Start → Board
 wanted c = let a = c .args in board (a .tick) (entriesWith (a .wmarks .now) (a .wxs .now) (a .wys .now) (a .wheld .now) (a .winputs .now))
 
-returns : tie.Need-returns
-returns c =
+refused-known : tie.Need-enum-known-allowed
+refused-known c = search needs
+
+refuses : tie.Need-returns
+refuses c =
     let st = c .before .before .before .before .before in
     let g = c .before .allowed .given in
     reach-refused (reader st) (wanted st) (st .args .out .now) _
@@ -53,14 +56,14 @@ reach-lent-spec =
     tie.close
     (tie.spec
     (λ c κs. search needs)
-    (λ c. search needs)
-    (λ c. search needs)
-    (λ c κs. search needs)
+    refused-known
     (λ c. search needs)
     (λ c κs. search needs)
     (λ c. search needs)
     (λ c κs. search needs)
+    (λ c. search needs)
     (λ c κs. search needs)
-    returns
+    (λ c κs. search needs)
+    refuses
     (λ c. search needs)
     returns-2)
