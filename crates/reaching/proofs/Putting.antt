@@ -1,6 +1,6 @@
 -- The chosen records put one behind the other into memory that has room for them. Assumes nothing.
 use Prim.Native.Nat.{ℕ, suc, _+_, _*_, _≤_, _<_}
-use mathlib.Core.Path.{_≡_, refl, sym, _∙_, ap, subst}
+use mathlib.Core.Path.{_≡_, refl, sym, _∙_, ap}
 use mathlib.Core.Bool.{Bool, true, false, cond}
 use mathlib.Core.List.{List, [], _∷_, _++_, append-nil}
 use native.Mathlib.Omega.{arith}
@@ -11,7 +11,7 @@ use lib.ListN.{length, drop, length-append}
 use lib.Seq.{take-at}
 use borrow.Author.Tests.{le-leb, lt-ltb, le-ltb, ltb-true, ltb-false}
 use Rattle.num.proofs.Cases.{by-bool}
-use Rattle.refusal.specs.Said.{Said, gives, refusing}
+use Rattle.refusal.specs.Said.{gives, refusing}
 use Rattle.refusal.specs.declared.Refusal.{Refusal}
 use Rattle.varint.specs.Written.{written, wroteSaid, writing}
 use Rattle.varint.specs.declared.Wrote.{Wrote}
@@ -22,7 +22,7 @@ use Rattle.kinds.specs.declared.Version.{Version}
 use Rattle.item.specs.Records.{meaning}
 use Rattle.item.specs.Contents.{recordOf}
 use Rattle.written.specs.Written.{writeContent, recordBytes}
-use Rattle.written.specs.Unwritable.{recordWritable, Writes}
+use Rattle.written.specs.Unwritable.{Writes}
 use Rattle.record_writer.specs.steps.Puts.{PutsBytes}
 use Rattle.choice.specs.Chosen.{Rec, joined, isSome, bytesOf}
 use Rattle.choice.proofs.Lengths.{bytes-append, joined-le, some-bytes}

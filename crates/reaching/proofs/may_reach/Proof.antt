@@ -56,35 +56,50 @@ returns-2 c =
     let d = c .before .before in
     may-closed (reader (entry d)) (wanted (entry d)) (good d ∙ not-false _ (c .before .if1 .left)) (closed d ∙ c .if2 .taken)
 
+-- a good state and board, and the reader isn't closed
+module _ (c : tie.Else2) where
+  abbrev tests : tie.After-both2
+  tests = c .before .before
+
+  abbrev first : tie.Start
+  first = entry tests
+
+  all-good : (goodReader (reader first) && goodBoard (wanted first)) ≡ true
+  all-good = good tests ∙ not-false _ (c .before .if1 .left)
+
+  not-closed : isClosed (first .args .s .standing) ≡ false
+  not-closed = closed tests ∙ c .if2 .left
+
 returns-3 : tie.Need-returns-3
 returns-3 c =
-    let d = c .before .before .before in
-    may-mid (reader (entry d)) (wanted (entry d)) (good d ∙ not-false _ (c .before .before .if1 .left)) (closed d ∙ c .before .if2 .left)
-    (mid d ∙ c .if3 .taken)
+    let o = c .before in
+    may-mid (reader (first o)) (wanted (first o)) (all-good o) (not-closed o) (mid (tests o) ∙ c .if3 .taken)
 
--- the three tests passed: whether it is unreachable decides
+-- no kind is pending either: whether it is unreachable decides
+abbrev passed : tie.Else3 → tie.Else2
+passed c = c .before
+
 module _ (c : tie.Else3) where
-  abbrev first : tie.Start
-  first = entry (c .before .before .before)
+  abbrev start : tie.Start
+  start = first (passed c)
 
   abbrev never : Bool
-  never = unreachable (reader first .scalars) (reader first .entries) (wanted first .tick) (wanted first .entries)
+  never = unreachable (reader start .scalars) (reader start .entries) (wanted start .tick) (wanted start .entries)
 
-  refuses : never ≡ true → mayReach (reader first) (wanted first) ≡ mayNot Unreachable
-  refuses =
-      let d = c .before .before .before in
-      may-never (reader first) (wanted first) (good d ∙ not-false _ (c .before .before .if1 .left)) (closed d ∙ c .before .if2 .left) (mid d ∙ c .if3 .left)
+  none-mid : isPending (start .args .s .pending) ≡ false
+  none-mid = mid (tests (passed c)) ∙ c .if3 .left
 
-  allows : never ≡ false → mayReach (reader first) (wanted first) ≡ may
-  allows =
-      let d = c .before .before .before in
-      may-now (reader first) (wanted first) (good d ∙ not-false _ (c .before .before .if1 .left)) (closed d ∙ c .before .if2 .left) (mid d ∙ c .if3 .left)
+  refuses : never ≡ true → mayReach (reader start) (wanted start) ≡ mayNot Unreachable
+  refuses = may-never (reader start) (wanted start) (all-good (passed c)) (not-closed (passed c)) none-mid
+
+  allows : never ≡ false → mayReach (reader start) (wanted start) ≡ may
+  allows = may-now (reader start) (wanted start) (all-good (passed c)) (not-closed (passed c)) none-mid
 
 returns-4 : tie.Need-returns-4
 returns-4 c =
     let d = c .before .before in
-    let r = reader (first d) in
-    let b = wanted (first d) in
+    let r = reader (start d) in
+    let b = wanted (start d) in
     refuses d (ap (λ (t : BoardTick). unreachable (r .scalars) (r .entries) t (b .entries)) (c .enum-told .given .1))
 
 -- the wanted tick, and whether it can't be reached
@@ -92,7 +107,7 @@ module _ (c : tie.After-cant-reach) where
   abbrev before-match : tie.Else3
   before-match = c .before .before .before .before
 
-  tick-is : first before-match .args .tick ≡ In (toZ w32 (ofZ w32 (c .before .before .tick .given .0 .0)))
+  tick-is : start before-match .args .tick ≡ In (toZ w32 (ofZ w32 (c .before .before .tick .given .0 .0)))
   tick-is =
       let g = c .before .before .tick .given in
       let u : toZ w32 (ofZ w32 (g .0 .0)) ≡ g .0 .0 = search needs in
@@ -100,7 +115,7 @@ module _ (c : tie.After-cant-reach) where
 
   cant-is : never before-match ≡ c .cant-reach .result
   cant-is =
-      let st = first before-match in
+      let st = start before-match in
       unreachable-in (reader st .scalars) (reader st .entries) (wanted st .tick) (wanted st .entries) _ _ tick-is
       (c .cant-reach .ensures (st .args .inputs .now) (st .args .winputs .now))
 

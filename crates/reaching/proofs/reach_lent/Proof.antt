@@ -25,11 +25,8 @@ reader c = let a = c .args in readerWith (a .s) (entriesWith (a .marks .now) (a 
 abbrev wanted : tie.Start → Board
 wanted c = let a = c .args in board (a .tick) (entriesWith (a .wmarks .now) (a .wxs .now) (a .wys .now) (a .wheld .now) (a .winputs .now))
 
-refused-known : tie.Need-enum-known-allowed
-refused-known c = search needs
-
-refuses : tie.Need-returns
-refuses c =
+returns : tie.Need-returns
+returns c =
     let st = c .before .before .before .before .before in
     let g = c .before .allowed .given in
     reach-refused (reader st) (wanted st) (st .args .out .now) _
@@ -47,23 +44,29 @@ returns-2 c =
     subst (λ (x : Allowed). AllowedIs (st .args .tick) x (mayReach r b)) (g .1) (n .before .before .before .before .before .before .may-reach .ensures) in
     let p = rw u at (n .put-all .ensures) in
     let bs = bytesOf (chosen (r .scalars) (r .entries) (g .0 .0) (b .entries)) in
-    let f = front-shown (n .before .before .memory .result) bs (omega (arith, chosen-le (r .scalars) (r .entries) (g .0 .0) (b .entries), n .before .before .memory .ensures)) _ _ p in
+    let f = front-shown (n .before .before .memory .result) bs
+    (omega (arith, chosen-le (r .scalars) (r .entries) (g .0 .0) (b .entries), n .before .before .memory .ensures))
+    (n .put-all .result) (n .put-all .last .1 .1 .1 .1 .1 .1 .1 .1 .1 .1 .1 .1 .0) p in
     let w = c .before .before .write-raw .ensures in
     reach-done r b (st .args .out .now) (g .0 .0) (m .0) (m .1) _ _ _ (c .before .before .before .before .show .ensures ∙ f) (w .0) (w .1)
+
+allowed-known : tie.Need-enum-known-allowed-2
+allowed-known c = search needs
+
+memory-shown : tie.Need-slice-aggregate-show
+memory-shown c = search needs
 
 pub reach-lent-spec : {M : Type 1} → statement M
 reach-lent-spec =
     tie.close
     (tie.spec
     (λ c κs. search needs)
-    refused-known
     (λ c. search needs)
+    allowed-known
     (λ c κs. search needs)
     (λ c. search needs)
     (λ c κs. search needs)
-    (λ c. search needs)
+    memory-shown
     (λ c κs. search needs)
     (λ c κs. search needs)
-    refuses
-    (λ c. search needs)
-    returns-2)
+    returns (λ c. search needs) returns-2)
