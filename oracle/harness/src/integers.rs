@@ -49,7 +49,8 @@ impl Warn<Warning> for Remark {
     }
 }
 
-fn written(number: i32) -> Vec<u8> {
+/// The bytes that libtw2 writes for a number.
+pub fn written(number: i32) -> Vec<u8> {
     let mut target = Vec::with_capacity(LONGEST);
     with_packer(&mut target, |mut packer| packer.write_int(number))
         .expect("there is room for an integer");

@@ -1,13 +1,17 @@
 //! libtw2's reader, and what is compared with it.
 
+pub mod aims;
 pub mod batch;
 pub mod bench;
 pub mod board;
+pub mod changes;
 pub mod compare;
+pub mod entries;
 pub mod expected;
 pub mod fields;
 pub mod framed;
 pub mod gathered;
+pub mod goals;
 pub mod going;
 pub mod goings;
 pub mod integers;
@@ -18,6 +22,8 @@ pub mod lists;
 pub mod lookups;
 pub mod made;
 pub mod program;
+pub mod reach;
+pub mod reaches;
 pub mod records;
 pub mod replay;
 pub mod rewind;
@@ -27,6 +33,7 @@ pub mod scripts;
 pub mod shrink;
 pub mod skips;
 pub mod stage;
+pub mod stand;
 pub mod subject;
 pub mod text;
 pub mod ties;

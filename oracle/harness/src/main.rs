@@ -1,9 +1,11 @@
 //! The oracle: libtw2's reader behind a command line.
 
+use generator::Sort;
 use oracle::bench;
 use oracle::compare;
 use oracle::expected;
 use oracle::framed;
+use oracle::goals;
 use oracle::going;
 use oracle::input;
 use oracle::integers;
@@ -11,6 +13,7 @@ use oracle::invalid;
 use oracle::jumps;
 use oracle::ladder;
 use oracle::lookups;
+use oracle::reaches;
 use oracle::records;
 use oracle::replay;
 use oracle::rewind;
@@ -30,11 +33,14 @@ const USAGE: &str = "usage:
   oracle going                                 < CASES
   oracle going_cases                           < LINES
   oracle reel                                  < INPUT
+  oracle reach                                 < CASES
+  oracle reach_cases                           < LINES
   oracle framed                                < LINES
   oracle records                               < LINES
   oracle integers                              < LINES
   oracle bench FILE ROUNDS
-  oracle compare N SEED REPLAY LOOKUPS LADDER REWIND GOING";
+  oracle compare N SEED REPLAY LOOKUPS LADDER REWIND GOING
+  oracle compare_reach N SEED REACH";
 
 fn main() -> ExitCode {
     let arguments: Vec<String> = std::env::args().skip(1).collect();
@@ -65,6 +71,8 @@ fn command(words: &[&str]) -> io::Result<ExitCode> {
         ["going"] => scripts::command()?,
         ["going_cases"] => scripts::cases()?,
         ["reel"] => print!("{}", jumps::reel(&input()?)),
+        ["reach"] => goals::command()?,
+        ["reach_cases"] => goals::cases()?,
         ["framed"] => framed::command()?,
         ["records"] => records::command()?,
         ["integers"] => integers::command()?,
@@ -77,12 +85,19 @@ fn command(words: &[&str]) -> io::Result<ExitCode> {
                 rewind,
                 going,
             };
-            let sorts = compare::sorts(&std::env::var("SORTS").unwrap_or_default())?;
-            return compare::command(number(count)?, number(seed)?, &sorts, &programs);
+            return compare::command(number(count)?, number(seed)?, &sorts()?, &programs);
+        }
+        ["compare_reach", count, seed, reach] => {
+            return reaches::command(number(count)?, number(seed)?, &sorts()?, reach);
         }
         _ => return Err(invalid(USAGE)),
     }
     Ok(ExitCode::SUCCESS)
+}
+
+/// The sorts that are compared.
+fn sorts() -> io::Result<Vec<Sort>> {
+    compare::sorts(&std::env::var("SORTS").unwrap_or_default())
 }
 
 /// What the program rewind prints.

@@ -4,10 +4,12 @@ use crate::expected::expected;
 use crate::fields::hex;
 use crate::framed::framed;
 use crate::framed::When;
+use crate::goals::Goal;
 use crate::jumps::Jumps;
 use crate::ladder::ladder;
 use crate::lookups::lookups;
 use crate::program::output;
+use crate::reach;
 use crate::scripts::Script;
 use crate::shrink::shrink;
 use crate::stage::told;
@@ -30,6 +32,8 @@ pub enum Task {
     Rewind(Jumps),
     /// What going_vectors prints of this script.
     Going(Script),
+    /// The bytes that reach_vectors prints for this goal.
+    Reach(Goal),
 }
 
 pub struct Subject<'a> {
@@ -45,6 +49,7 @@ impl Subject<'_> {
             Task::Lookups(when) => framed(input, *when),
             Task::Rewind(jumps) => jumps.framed(input),
             Task::Going(script) => script.framed(input),
+            Task::Reach(goal) => goal.framed(input),
         }
     }
     fn wanted(&self, input: &[u8]) -> String {
@@ -54,6 +59,7 @@ impl Subject<'_> {
             Task::Ladder => ladder(input).text,
             Task::Rewind(jumps) => jumps.text(input),
             Task::Going(script) => told(script, input).text,
+            Task::Reach(goal) => reach::told(input, goal).text,
         }
     }
     /// What the program prints for what it reads, as far as it can matter.
@@ -102,6 +108,7 @@ impl Subject<'_> {
                 jumps.each().map(Task::Rewind).collect()
             }
             Task::Going(script) => script.shorter().map(Task::Going).collect(),
+            Task::Reach(goal) => goal.shorter().into_iter().map(Task::Reach).collect(),
             _ => Vec::new(),
         };
         for task in narrower {
@@ -119,6 +126,7 @@ impl Subject<'_> {
         match &self.task {
             Task::Rewind(jumps) => writeln!(out, "rewound {jumps}")?,
             Task::Going(script) => writeln!(out, "steps {script}")?,
+            Task::Reach(goal) => writeln!(out, "{goal}")?,
             _ => (),
         }
         writeln!(out, "libtw2, with what it lacks put in:")?;

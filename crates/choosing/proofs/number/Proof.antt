@@ -1,9 +1,7 @@
 -- `choosing::number` meets its contract. Assumes nothing.
-use lib.IntN.{pos}
 use mir.Syntax.{w32}
 use mir.Facts.{toZ-pos}
 use native.Mathlib.Omega.{arith}
-use borrow.Author.Needs.{needs}
 use Rattle.choosing.proofs.number.Statement.{statement}
 use Rattle.choosing.proofs.number.Tie as tie
 

@@ -24,6 +24,9 @@ cid c = back (c .number .result) (sfits-of (c .number .ok)) ∙ c .number .ensur
 differ : (c : tie.After-number) → samePlayer (c .before .before .before .args .p) (c .before .before .before .args .q) ≡ false
 differ c = sym (c .before .before .same-player .ensures) ∙ c .before .if1 .left
 
+subtracts : tie.Need-wrapping-sub-requires
+subtracts c κs = search needs
+
 returns-2 : tie.Need-returns-2
 returns-2 c =
     let n = c .before .before .before .before .before .before .before .before .before .before .before in
@@ -83,7 +86,7 @@ player-step-spec =
     (λ c κs. search needs)
     returns
     (λ c κs. search needs)
-    (λ c κs. search needs)
+    subtracts
     (λ c κs. search needs)
     (λ c κs. search needs)
     returns-2
