@@ -1,7 +1,7 @@
 -- From a reader and a wanted board to the bytes of records that bring the reader there. docs/FORMAT.md, "From a wanted board to a recording".
 use Prim.Native.Nat.{ℕ, _+_}
 use mathlib.Core.Path.{_≡_}
-use mathlib.Core.Bool.{Bool, true, false, not, cond, _&&_, _||_}
+use mathlib.Core.Bool.{Bool, true, not, cond, _&&_, _||_}
 use mathlib.Core.List.{List, []}
 use lib.IntN.{ℤ, pos}
 use lib.Signed.{ltZ}
