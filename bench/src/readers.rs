@@ -41,6 +41,7 @@ extern "C" {
         ys: *mut [i32; 128],
         held: *mut [u8; 128],
         numbers: *mut [i32; 1280],
+        teams: *mut [i32; 256],
     ) -> u8;
     fn jolzerv_start_rewind(
         second: bool,
@@ -55,6 +56,7 @@ extern "C" {
         ys: *mut [i32; 128],
         held: *mut [u8; 128],
         numbers: *mut [i32; 1280],
+        teams: *mut [i32; 256],
         three: *mut [usize; 3],
         two: *mut [i32; 2],
     ) -> u8;
@@ -69,6 +71,7 @@ extern "C" {
         ys: *mut [i32; 128],
         held: *mut [u8; 128],
         numbers: *mut [i32; 1280],
+        teams: *mut [i32; 256],
         three: *mut [usize; 3],
         two: *mut [i32; 2],
     ) -> u8;
@@ -102,6 +105,7 @@ pub struct UnderWay {
     ys: [i32; 128],
     held: [u8; 128],
     numbers: [i32; 1280],
+    teams: [i32; 256],
     /// The reel's next place and count, and how many rows are newer than the TickStart.
     three: [usize; 3],
     /// The copy's tick, and whether an event didn't fit.
@@ -116,6 +120,7 @@ impl UnderWay {
             ys: [0; 128],
             held: [0; 128],
             numbers: [0; 1280],
+            teams: [0; 256],
             three: [0; 3],
             two: [0; 2],
         }
@@ -172,8 +177,8 @@ pub fn kept(version: u8, body: &[u8], reel: &mut Reel) -> io::Result<u64> {
 /// The same, then a rewind to a tick: 0, or the number of the refusal.
 pub fn rewound(version: u8, body: &[u8], tick: i32, reel: &mut Reel) -> u8 {
     let (mut marks, mut xs, mut ys) = ([0; 128], [0; 128], [0; 128]);
-    let (mut held, mut numbers) = ([0; 128], [0; 1280]);
-    // SAFETY: a pointer and a length of one slice, which the call only reads, and pointers to eight arrays that it fills
+    let (mut held, mut numbers, mut teams) = ([0; 128], [0; 1280], [0; 256]);
+    // SAFETY: a pointer and a length of one slice, which the call only reads, and pointers to nine arrays that it fills
     let answer = unsafe {
         jolzerv_rewind_body(
             version == 2,
@@ -188,15 +193,16 @@ pub fn rewound(version: u8, body: &[u8], tick: i32, reel: &mut Reel) -> u8 {
             &mut ys,
             &mut held,
             &mut numbers,
+            &mut teams,
         )
     };
-    black_box((&marks, &xs, &ys, &held, &numbers));
+    black_box((&marks, &xs, &ys, &held, &numbers, &teams));
     answer
 }
 
 /// Reads with a reel beside and starts a rewind to a tick: 0, or the number of the refusal.
 pub fn start(version: u8, body: &[u8], tick: i32, reel: &mut Reel, rewind: &mut UnderWay) -> u8 {
-    // SAFETY: a pointer and a length of one slice, which the call only reads, and pointers to ten arrays that it fills
+    // SAFETY: a pointer and a length of one slice, which the call only reads, and pointers to eleven arrays that it fills
     unsafe {
         jolzerv_start_rewind(
             version == 2,
@@ -211,6 +217,7 @@ pub fn start(version: u8, body: &[u8], tick: i32, reel: &mut Reel, rewind: &mut 
             &mut rewind.ys,
             &mut rewind.held,
             &mut rewind.numbers,
+            &mut rewind.teams,
             &mut rewind.three,
             &mut rewind.two,
         )
@@ -219,7 +226,7 @@ pub fn start(version: u8, body: &[u8], tick: i32, reel: &mut Reel, rewind: &mut 
 
 /// A call of a rewind under way: 0 if it has ended, 255 if it is going, or the number of the refusal.
 pub fn go_on(tick: i32, events: usize, reel: &Reel, rewind: &mut UnderWay) -> u8 {
-    // SAFETY: pointers to three arrays that the call only reads, and to seven that it changes
+    // SAFETY: pointers to three arrays that the call only reads, and to eight that it changes
     unsafe {
         jolzerv_go_on(
             tick,
@@ -232,6 +239,7 @@ pub fn go_on(tick: i32, events: usize, reel: &Reel, rewind: &mut UnderWay) -> u8
             &mut rewind.ys,
             &mut rewind.held,
             &mut rewind.numbers,
+            &mut rewind.teams,
             &mut rewind.three,
             &mut rewind.two,
         )

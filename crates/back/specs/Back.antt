@@ -25,8 +25,6 @@ use Rattle.back.specs.Board.{board, goodBoard}
 use Rattle.back.specs.declared.BoardTick.{BoardTick}
 use Rattle.back.specs.declared.BoardTick.the-variants.{In, NoTick}
 use Rattle.back.specs.declared.Board.{Board}
-use Rattle.back.specs.declared.BackAnswer.the-variants as answers
-use Rattle.back.specs.declared.SteppedBack.{SteppedBack}
 
 -- the board before the event, or a refusal, which changes nothing
 pub data Back : Type 0 where
@@ -84,8 +82,3 @@ takeOff (other r) ten former k e = inTick k (λ t. was (board (In t) e))
 -- 17, then 19
 unfoldable pub stepBack : Board → Event → List ℤ → List ℤ → Back
 stepBack b e ten former = cond (goodBoard b) (takeOff e ten former (b .tick) (b .entries)) (refused BadState)
-
--- what the call hands back: in a refusal, the board that was given
-abbrev pub steppedFrom : Board → Back → SteppedBack
-steppedFrom b (was before) = record { answer = answers.Back; board = before }
-steppedFrom b (refused r) = record { answer = answers.Refused r; board = b }

@@ -1,3 +1,4 @@
 pub mod Board
 pub mod Back
+pub mod TeamBoard
 pub mod Undo

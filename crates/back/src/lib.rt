@@ -3,15 +3,21 @@ ghost use mathlib.Core.Path.{_≡_};
 ghost use mathlib.Core.List.{List};
 ghost use lib.IntN.{ℤ};
 ghost use Rattle.state.specs.Views.{eventIs};
+ghost use Rattle.teams.specs.Teams.{teamOf};
 ghost use Rattle.lookups.specs.Lookups.{posOf, inputFor};
 ghost use Rattle.back.specs.Board.{boardOf};
-ghost use Rattle.back.specs.Undo.{undoOf};
+ghost use Rattle.back.specs.TeamBoard.{teamBoardOf};
+ghost use Rattle.back.specs.Undo.{undoOf, undoJoining};
+ghost use Rattle.teams.specs.steps.Joinings.{joiningIs};
 use lookups::InputOf;
 use lookups::Pos;
 use refusal::Refusal;
 use state::Entries;
 use state::Event;
 use state::Reader;
+use teams::Joining;
+use teams::Team;
+use teams::TeamReader;
 
 // The tick that was started, or none.
 pub enum BoardTick {
@@ -24,6 +30,12 @@ pub struct Board {
     pub entries: Entries,
 }
 
+// A board and its teams, two numbers for each client 0 to 127 as in a reader.
+pub struct TeamBoard {
+    pub board: Board,
+    pub teams: [i32; 256],
+}
+
 pub enum BackAnswer {
     Back,
     Refused(Refusal),
@@ -32,10 +44,11 @@ pub enum BackAnswer {
 // The earlier board, or in a refusal the one that was given.
 pub struct SteppedBack {
     pub answer: BackAnswer,
-    pub board: Board,
+    pub board: TeamBoard,
 }
 
-// What a step back has to know of an event; the ten numbers of an input and the former ten stand beside it.
+// What a step back has to know of an event; the ten numbers of an input and the former ten stand beside it. Of a PlayerTeam: the client, its
+// team and the former one.
 pub enum Undo {
     Start(i32),
     End(i32),
@@ -60,6 +73,11 @@ pub enum Undo {
         cid: i32,
         former: bool,
     },
+    Team {
+        cid: i32,
+        team: i32,
+        former: Team,
+    },
     Nothing,
 }
 
@@ -82,6 +100,17 @@ pub fn board_of(reader: Reader) -> Board
     }
 }
 
+// The board of a reader with teams.
+pub fn team_board_of(reader: TeamReader) -> TeamBoard
+    ensures { λ r. ⌜ r ≡ teamBoardOf reader ⌝ }
+{
+    let teams = reader.teams;
+    TeamBoard {
+        board: board_of(reader.reader),
+        teams,
+    }
+}
+
 // The position of a client, or none.
 pub fn player_pos(board: Board, cid: i32) -> Pos
     ensures { λ r. ⌜ r ≡ posOf (board .entries) cid ⌝ }
@@ -98,9 +127,27 @@ pub fn input(board: Board, cid: i32) -> InputOf
     lookups::input(entries, cid)
 }
 
-// What a step back over the event has to know of it.
-pub fn undo_of(event: Event) -> Undo
-    ensures { λ r. ⌜ r ≡ undoOf (eventIs event) ⌝ }
+// The team of a client, or none.
+pub fn team(board: TeamBoard, cid: i32) -> Team
+    ensures { λ r. ⌜ r ≡ teamOf (board .teams) cid ⌝ }
+{
+    let teams = board.teams;
+    teams::team_of(&teams, cid)
+}
+
+// What a step back over a record has to know of it.
+fn undo_record(joining: Joining, former: Team) -> Undo
+    ensures { λ r. ⌜ r ≡ undoJoining (joiningIs joining) former ⌝ }
+{
+    match joining {
+        Joining::Joins { cid, team } => Undo::Team { cid, team, former },
+        Joining::Nobody => Undo::Nothing,
+    }
+}
+
+// What a step back over the event has to know of it; of a PlayerTeam the former team stands beside it, of another event it is not looked at.
+pub fn undo_of(event: Event, team: Team) -> Undo
+    ensures { λ r. ⌜ r ≡ undoOf (eventIs event) team ⌝ }
 {
     match event {
         Event::TickStart(tick) => Undo::Start(tick),
@@ -121,6 +168,6 @@ pub fn undo_of(event: Event) -> Undo
         },
         Event::PlayerOld { cid, x, y } => Undo::Old { cid, x, y },
         Event::Input { cid, former } => Undo::Input { cid, former },
-        Event::Record(_) => Undo::Nothing,
+        Event::Record(item) => undo_record(teams::joining_in(item), team),
     }
 }

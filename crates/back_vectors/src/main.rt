@@ -1,19 +1,23 @@
 // Steps back that no body gives: a line for each case, its name and the answer. Refusals 17 and 19, each beside a step that passes; a
 // refusal is to leave the board as it was. After a step back stand the tick (0, or 1 and the tick) and the entries of client 5: mark, x, y,
-// mark of the input, its first and last number.
+// mark of the input, its first and last number; behind a PlayerTeam, or where client 5 has a team, a line with the mark and the number of its
+// team entry.
 // Standard input holds cases one behind the other, each after its length in a byte: the length of its name, the name, and the event's kind
-// (0 start, 1 end, 2 record, 3 new, 4 change, 5 old, 6 input with former numbers, 7 without), in a tick or not, the tick, client 5 there or
-// not, the event's three numbers, of which the second of an input is the place of a number to change; where client 5 is not there, the
-// entries, as alike::entries_in takes them. A number is 100 more than it stands for.
+// (0 start, 1 end, 2 record, 3 new, 4 change, 5 old, 6 input with former numbers, 7 without, 8 PlayerTeam with a former team, 9 without), in
+// a tick or not, the tick, client 5 there or not, the event's three numbers, of which the second of an input is the place of a number to change
+// and the third of a PlayerTeam the former team; where client 5 is not there, the entries, as alike::entries_in takes them; teams, as
+// team_alike::teams_in takes them, or none. A number is 100 more than it stands for.
 use back::BackAnswer;
 use back::Board;
 use back::BoardTick;
+use back::TeamBoard;
 use item::Item;
 use kinds::Version;
 use libc::STDOUT_FILENO;
 use state::Entries;
 use state::Event;
 use state::Reader;
+use teams::Team;
 use texts::Text;
 
 fn say(text: &[u8]) {
@@ -53,10 +57,11 @@ fn event_of(kind: u8, a: i32, x: i32, y: i32) -> Event {
             cid: a,
             former: true,
         },
-        _ => Event::Input {
+        7 => Event::Input {
             cid: a,
             former: false,
         },
+        _ => Event::Record(Item::PlayerTeam { cid: a, team: x }),
     }
 }
 
@@ -67,6 +72,14 @@ fn event_in(s: &[u8]) -> Event {
         cases::number(s, 5),
         cases::number(s, 6),
     )
+}
+
+// The former team beside the event.
+fn former_in(s: &[u8]) -> Team {
+    if cases::byte(s, 0) == 8 {
+        return Team::Number(cases::number(s, 6));
+    }
+    Team::NoTeam
 }
 
 fn tick_in(s: &[u8]) -> BoardTick {
@@ -95,6 +108,13 @@ fn entries_in(s: &[u8]) -> Entries {
         return five();
     }
     alike::entries_in(cases::window(s, 7, s.len()))
+}
+
+fn teams_in(s: &[u8]) -> [i32; 256] {
+    if cases::byte(s, 3) == 1 {
+        return team_alike::teams_in(cases::window(s, 7, s.len()));
+    }
+    team_alike::teams_in(cases::window(s, 14, s.len()))
 }
 
 // The numbers of client 5's input, of which one may be another.
@@ -133,16 +153,29 @@ fn say_board(board: Board) {
     print(texts::plain(b" back", &ns));
 }
 
-fn step(board: Board, event: Event, input: [i32; 10]) {
-    let stepped = stepping::step_back(board, event, input, [11; 10]);
+fn say_team(teams: [i32; 256], always: bool) {
+    if always | (teams[10] != 0) {
+        print(texts::plain(b" team", &[teams[10], teams[11]]));
+    }
+}
+
+fn say_whole(board: TeamBoard, of_team: bool) {
+    let plain = board.board;
+    let teams = board.teams;
+    say_board(plain);
+    say_team(teams, of_team);
+}
+
+fn step(board: TeamBoard, event: Event, input: [i32; 10], team: Team, of_team: bool) {
+    let stepped = stepping::step_back(board, event, input, [11; 10], team);
     let answer = stepped.answer;
     let before = stepped.board;
     match answer {
-        BackAnswer::Back => say_board(before),
+        BackAnswer::Back => say_whole(before, of_team),
         BackAnswer::Refused(r) => {
             say(b" ");
             print(texts::refused(r));
-            if !alike::same_board(board, before) {
+            if !team_alike::same_team_board(board, before) {
                 say(b"the board is changed\n");
             }
         }
@@ -152,7 +185,17 @@ fn step(board: Board, event: Event, input: [i32; 10]) {
 fn step_case(s: &[u8]) {
     let tick = tick_in(s);
     let entries = entries_in(s);
-    step(Board { tick, entries }, event_in(s), ten_in(s));
+    let board = TeamBoard {
+        board: Board { tick, entries },
+        teams: teams_in(s),
+    };
+    step(
+        board,
+        event_in(s),
+        ten_in(s),
+        former_in(s),
+        8 <= cases::byte(s, 0),
+    );
 }
 
 fn run_case(case: &[u8]) {

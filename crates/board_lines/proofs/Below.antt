@@ -1,6 +1,6 @@
 -- Lines of the clients that pass a test, put one behind the other. Assumes nothing.
 use Prim.Native.Nat.{ℕ, zero, suc, _+_, _*_, _≤_, _<_}
-use mathlib.Core.Path.{_≡_, refl}
+use mathlib.Core.Path.{_≡_, refl, ap, _∙_}
 use mathlib.Core.Bool.{Bool, true, false, cond, _&&_}
 use mathlib.Core.List.{List, [], _∷_, _++_}
 use native.Mathlib.Omega.{arith}
@@ -12,10 +12,14 @@ use lib.IntN.{ℤ, pos}
 use Rattle.packer.proofs.Joined.{two-puts, nothing-put}
 use Rattle.state.specs.State.{xOf, yOf, tenOf}
 use Rattle.state.specs.declared.Entries.{Entries}
+use Rattle.teams.specs.Teams.{hasTeam, numberOf, teamOf}
+use Rattle.teams.specs.declared.Team.{Team}
+use Rattle.teams.specs.declared.Team.the-variants.{Number, NoTeam}
+use Rattle.lines.specs.Lines.{plainLine}
 use Rattle.lines.specs.steps.Puts.{PutsText}
 use Rattle.lines.proofs.Texts.{end-le}
 use Rattle.row_lines.proofs.Puts.{put-size}
-use Rattle.board_lines.specs.BoardLines.{playerLine, inputLine, linesBelow}
+use Rattle.board_lines.specs.BoardLines.{teamWord, playerLine, inputLine, teamLine, linesBelow}
 
 -- ---- lengths
 
@@ -28,6 +32,9 @@ ten-count l c = refl
 
 pub input-le : (e : Entries) (c : ℕ) → length (inputLine e c) ≤ 138
 input-le e c = omega (arith, end-le (pos c ∷ tenOf (e .inputs) c), ten-count (e .inputs) c)
+
+pub team-le : (t : List ℤ) (c : ℕ) → length (teamLine t c) ≤ 29
+team-le t c = omega (arith, end-le (pos c ∷ numberOf t c ∷ []))
 
 times-le : (c n m : ℕ) → c ≤ n → c * m ≤ n * m
 times-le zero n m h = omega arith
@@ -43,6 +50,22 @@ module _ (mark : ℕ) (xs : List ℕ) (at : ℕ) (line : List ℕ) where
   pub one-line : mark ≡ 1 → (next : ℕ) (ys : List ℕ) → PutsText xs at line next ys
       → PutsText xs at (cond (eqb mark 1) line []) next ys
   one-line h next ys p = let t = eq-eqb mark 1 h in rw t p
+
+-- ---- the line of a team that was looked up
+
+module _ (c : ℕ) where
+  abbrev pub lineFor : Team → List ℕ
+  lineFor (Number n) = plainLine teamWord (pos c ∷ n ∷ [])
+  lineFor NoTeam = []
+
+  line-by : (b : Bool) (n : ℤ) → lineFor (cond b (Number n) NoTeam) ≡ cond b (plainLine teamWord (pos c ∷ n ∷ [])) []
+  line-by true n = refl
+  line-by false n = refl
+
+  pub line-for : (t : List ℤ) (m : Team) → m ≡ teamOf t (pos c) → lineFor m ≡ cond (hasTeam t c) (teamLine t c) []
+  line-for t m e = ap lineFor e ∙ line-by (hasTeam t c) (numberOf t c)
+
+-- ---- lines of clients
 
 -- the test of a client below 128 is that of its mark
 pub below-128 : (c : ℕ) (t : Bool) → c < 128 → (ltb c 128 && t) ≡ t

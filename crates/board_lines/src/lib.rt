@@ -7,6 +7,7 @@ ghost use lib.Dec.{eqb, leb};
 ghost use lib.IntN.{ℤ, pos};
 ghost use lib.ListN.{length};
 ghost use Rattle.state.specs.State.{present, holds, tenOf, entriesWith};
+ghost use Rattle.teams.specs.Teams.{hasTeam};
 ghost use Rattle.lines.specs.Lines.{plainLine, inputWord, longest, textAnswer, textTarget};
 ghost use Rattle.lines.specs.steps.Puts.{PutsText};
 ghost use Rattle.board_lines.specs.BoardLines.{
@@ -14,6 +15,7 @@ ghost use Rattle.board_lines.specs.BoardLines.{
   tickLine,
   playerLine,
   inputLine,
+  teamLine,
   linesBelow,
   boardText,
   rewoundText,
@@ -21,14 +23,14 @@ ghost use Rattle.board_lines.specs.BoardLines.{
   goneText,
   longestBoard,
 };
-use back::Board;
 use back::BoardTick;
+use back::TeamBoard;
 use going::GoAnswer;
 use lines::Ending;
 use refusal::Refusal;
 use rewinding::RewindAnswer;
 use rewinding::Rewound;
-use state::Entries;
+use teams::Team;
 use varint::Wrote;
 
 fn put_tick(tick: BoardTick, out: &mut [u8], at: usize) -> usize
@@ -105,12 +107,40 @@ fn put_inputs(held: &[u8; 128], inputs: &[i32; 1280], out: &mut [u8], at: usize)
     next
 }
 
-fn put_board(board: Board, out: &mut [u8], at: usize) -> usize
+// The line of a client's team if it has one, else none.
+fn put_team(c: usize, teams: &[i32; 256], out: &mut [u8], at: usize) -> usize
+    requires { ⌜ (c < 128) × (at + 29 ≤ length (now out)) ⌝ }
+    ensures { λ r. ⌜ PutsText (now (out .entry)) at (cond (hasTeam (now (teams .entry)) c) (teamLine (now (teams .entry)) c) []) r (now (out .exit)) ⌝ }
+{
+    let client = c as i32;
+    let Team::Number(n) = teams::team_of(teams, client) else {
+        return at;
+    };
+    row_lines::past_or(lines::write_plain(b"team", &[client, n], out, at), at)
+}
+
+// The lines of all that have a team.
+fn put_teams(teams: &[i32; 256], out: &mut [u8], at: usize) -> usize
+    requires { ⌜ at + 128 * 29 ≤ length (now out) ⌝ }
+    ensures { λ r. ⌜ PutsText (now (out .entry)) at (linesBelow 128 (hasTeam (now (teams .entry))) (teamLine (now (teams .entry)))) r (now (out .exit)) ⌝ }
+{
+    let mut c: usize = 0;
+    let mut next = at;
+    while c < 128 {
+        next = put_team(c, teams, out, next);
+        c += 1;
+    }
+    next
+}
+
+fn put_board(board: TeamBoard, out: &mut [u8], at: usize) -> usize
     requires { ⌜ at + longestBoard ≤ length (now out) ⌝ }
     ensures { λ r. ⌜ PutsText (now (out .entry)) at (boardText board) r (now (out .exit)) ⌝ }
 {
-    let tick = board.tick;
-    let entries = board.entries;
+    let teams = board.teams;
+    let plain = board.board;
+    let tick = plain.tick;
+    let entries = plain.entries;
     let marks = entries.marks;
     let xs = entries.xs;
     let ys = entries.ys;
@@ -118,7 +148,8 @@ fn put_board(board: Board, out: &mut [u8], at: usize) -> usize
     let inputs = entries.inputs;
     let past_tick = put_tick(tick, out, at);
     let past_players = put_players(&marks, &xs, &ys, out, past_tick);
-    put_inputs(&held, &inputs, out, past_players)
+    let past_inputs = put_inputs(&held, &inputs, out, past_players);
+    put_teams(&teams, out, past_inputs)
 }
 
 // The last line: whether the copy stands at its tick, is still going there, or why not.
@@ -137,7 +168,7 @@ fn put_end(answer: GoAnswer, out: &mut [u8], at: usize) -> usize
 }
 
 // The copy and the last line.
-fn put_gone(answer: GoAnswer, board: Board, out: &mut [u8], at: usize) -> usize
+fn put_gone(answer: GoAnswer, board: TeamBoard, out: &mut [u8], at: usize) -> usize
     requires { ⌜ at + longestBoard ≤ length (now out) ⌝ }
     ensures { λ r. ⌜ PutsText (now (out .entry)) at (goneText answer board) r (now (out .exit)) ⌝ }
 {
@@ -145,7 +176,7 @@ fn put_gone(answer: GoAnswer, board: Board, out: &mut [u8], at: usize) -> usize
     put_end(answer, out, next)
 }
 
-fn put_rewound(answer: RewindAnswer, board: Board, out: &mut [u8], at: usize) -> usize
+fn put_rewound(answer: RewindAnswer, board: TeamBoard, out: &mut [u8], at: usize) -> usize
     requires { ⌜ at + longestBoard ≤ length (now out) ⌝ }
     ensures { λ r. ⌜ PutsText (now (out .entry)) at (rewoundText answer board) r (now (out .exit)) ⌝ }
 {
@@ -162,7 +193,7 @@ fn has_longest(len: usize, at: usize) -> bool
     if len < at {
         return false;
     }
-    23324 <= len - at
+    27036 <= len - at
 }
 
 // The text of a rewind's answer. Refused 9, with nothing changed, where the longest text wouldn't fit.
@@ -179,7 +210,7 @@ pub fn write_rewound(rewound: Rewound, out: &mut [u8], at: usize) -> Wrote
 }
 
 // The text of a call that goes on with a rewind: its copy, in a refusal too, and how it stands. Refused 9 as above.
-pub fn write_gone(answer: GoAnswer, board: Board, out: &mut [u8], at: usize) -> Wrote
+pub fn write_gone(answer: GoAnswer, board: TeamBoard, out: &mut [u8], at: usize) -> Wrote
     ensures answer { λ r. ⌜ r ≡ textAnswer longestBoard (now (out .entry)) at (goneText answer board) ⌝ }
     ensures target { λ r. ⌜ now (out .exit) ≡ textTarget longestBoard (now (out .entry)) at (goneText answer board) ⌝ }
 {

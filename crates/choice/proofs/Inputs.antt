@@ -76,7 +76,7 @@ inputsTo e w n =
 record Before (e w : Entries) (n : ℕ) (q : Reader) : Type 0 where
   holds : q .entries ≡ inputsTo e w n
 
-module _ (e w : Entries) (b : Between e w) where
+module _ (e w : Entries) (b : Between e w) (ts : List ℤ) where
   inputs-start : playersTo e w 128 ≡ inputsTo e w 0
   unfolding over overTen
   inputs-start =
@@ -94,7 +94,7 @@ module _ (e w : Entries) (b : Between e w) where
       rw (over-all 0 (w .held) (e .held) 128 (t .held) (s .held), over-ten-all (w .inputs) (e .inputs) 128 (t .inputs) (s .inputs))
 
   module _ (q : Reader) (n : ℕ) (h : n < 128) (ready : Ready q) (i : Before e w n q) where
-    stays : Same e w n → Comes (Before e w (suc n)) q []
+    stays : Same e w n → Comes (Before e w (suc n)) q ts [] ts
     stays s =
         let p : inputsTo e w n ≡ inputsTo e w (suc n) =
         rw (over-same 0 (w .held) (e .held) n (s .mark), over-ten-same (w .inputs) (e .inputs) 128 n (b .now-sizes .inputs) h (s .ten)) in
@@ -112,16 +112,16 @@ module _ (e w : Entries) (b : Between e w) where
         record { mark = y .mark ∙ sym (z .mark); ten = y .ten ∙ sym (z .ten) }
 
     writes : eqb (getD (w .held) n 0) 1 ≡ true
-        → Comes (Before e w (suc n)) q (ofNumbers kinds.InputNew (pos n ∷ tenOf (w .inputs) n) ∷ [])
+        → Comes (Before e w (suc n)) q ts (ofNumbers kinds.InputNew (pos n ∷ tenOf (w .inputs) n) ∷ []) ts
     unfolding over overTen
     writes c =
         let ns = tenOf (w .inputs) n in
         let p : withInput (q .entries) n 1 ns ≡ inputsTo e w (suc n) =
         rw (eqb-true (getD (w .held) n 0) 1 c) (ap (λ (k : Entries). withInput k n 1 ns) (i .holds)) in
         one _ (input-leads q n ns ready h (ten-length (w .inputs) n) (ten-fits (w .inputs) n (b .inputs)))
-        (λ t names holds. record { holds = holds ∙ p })
+        (λ t _ names holds. record { holds = holds ∙ p })
 
-    step : Comes (Before e w (suc n)) q (inputFor e w n)
+    step : Comes (Before e w (suc n)) q ts (inputFor e w n) ts
     unfolding inputStep
     step =
         by-bool (eqb (getD (w .held) n 0) 1)
@@ -132,7 +132,7 @@ module _ (e w : Entries) (b : Between e w) where
         (λ c. rw c (stays (without c)))
 
   pub inputs-come : (r : Reader) → Ready r → r .entries ≡ playersTo e w 128
-      → Comes (λ t. t .entries ≡ w) r (joined 128 (inputFor e w))
+      → Comes (λ t. t .entries ≡ w) r ts (joined 128 (inputFor e w)) ts
   inputs-come r ready p =
-      so (λ q i. i .holds ∙ inputs-end)
-      (pass (Before e w) (inputFor e w) 128 (λ q n h s k. step q n h s k) r ready (record { holds = p ∙ inputs-start }) 128 (omega arith))
+      so (λ q _ i. i .holds ∙ inputs-end)
+      (pass (Before e w) (λ _. ts) (inputFor e w) 128 (λ q n h s k. step q n h s k) r ready (record { holds = p ∙ inputs-start }) 128 (omega arith))

@@ -6,24 +6,29 @@ use mathlib.Core.List.{List, [], _∷_, _++_, map, append-assoc}
 use native.Mathlib.Omega.{arith}
 use lib.ListN.{length, length-append}
 use lib.Dec.{ltb, eqb, lit≤}
-use lib.IntN.{ℤ, pos, negsuc, _-ℤ_}
+use lib.IntN.{ℤ, pos, negsuc}
 use borrow.Author.Tests.{lt-ltb}
 use mir.Syntax.{w32}
 use mir.Val.{toZ, ofZ}
-use Rattle.num.specs.Wrap.{wrap32}
 use Rattle.varint.specs.Written.{laterByte, laterBytes, canonical}
 use Rattle.varint.proofs.Writing.{canonical-le, later-none}
+use Rattle.packer.specs.Texts.{dataBytes}
 use Rattle.fields.specs.Fields.{Field, int, dt, mask, str, uuid, blob, args, num}
 use Rattle.fields.specs.Writing.{stringsBytes, writeField, writeFields}
 use Rattle.kinds.specs.declared.Kind.{Kind}
 use Rattle.kinds.specs.declared.Kind.the-variants as kinds
+use Rattle.extensions.specs.Extensions.{idAt, payloadAt, extensionRow}
+use Rattle.extensions.specs.declared.Extension.the-variants.{PlayerTeam}
 use Rattle.item.specs.declared.Tag.{Tag}
 use Rattle.item.specs.declared.Tag.the-variants.{Plain, Named, Other}
-use Rattle.item.specs.Records.{restOf}
-use Rattle.written.specs.Written.{kindBytes, allFields, writeContent}
+use Rattle.item.specs.Records.{content, restOf}
+use Rattle.written.specs.Written.{kindBytes, allFields, payloadBytes, exBytes, writeContent}
 use Rattle.state.specs.declared.Entries.{Entries}
 use Rattle.state.specs.declared.Scalars.{Scalars}
 use Rattle.state.proofs.Ten.{ten-length}
+use Rattle.teams.specs.Teams.{teamOf}
+use Rattle.teams.specs.declared.Team.{Team}
+use Rattle.teams.specs.declared.Team.the-variants.{Number, NoTeam}
 use Rattle.choice.specs.Chosen.{
   playerOf,
   heldOf,
@@ -38,9 +43,13 @@ use Rattle.choice.specs.Chosen.{
   inputStep,
   inputFor,
   changes,
+  sameTeam,
+  teamRecord,
+  teamStep,
+  teamFor,
+  allChanges,
   skipTo,
   startedBy,
-  emptyCommand,
   startIf,
   isSome,
   chosen,
@@ -213,6 +222,45 @@ start-le true changed = none-le 25
 start-le false true = none-le 25
 start-le false false = lit≤ tt
 
+-- ---- a team: -11, the identifier's 16 bytes, the number of bytes of data, client and team
+
+small-le : (n : ℕ) → n < 64 → length (canonical (pos n)) ≤ 1
+unfolding canonical
+small-le n h = let e : n / 64 ≡ 0 = omega arith in rw (e, later-none 4) (omega arith)
+
+data-le : (load : List ℕ) → length load < 64 → length (dataBytes load) ≤ 1 + length load
+data-le load h = rw length-append (omega (arith, small-le (length load) h))
+
+team-kind : length (canonical (negsuc 10)) ≤ 1
+unfolding canonical laterBytes
+team-kind = lit≤ tt
+
+team-id : length (idAt PlayerTeam) ≤ 16
+unfolding idAt extensionRow
+team-id = lit≤ tt
+
+load-le : (c : ℕ) (n : ℤ) → c < 128 → length (payloadBytes (payloadAt PlayerTeam) (num (pos c) ∷ num n ∷ [])) ≤ 7
+unfolding payloadAt extensionRow
+load-le c n h = rw (length-append, length-append) (omega (arith, client-le c h, canonical-le n))
+
+ex-le : (id load : List ℕ) → length id ≤ 16 → length load ≤ 7 → length (exBytes id load) ≤ 25
+ex-le id load h k =
+    rw (length-append (canonical (negsuc 10)) (id ++ dataBytes load), length-append id (dataBytes load))
+    (omega (arith, team-kind, data-le load (omega arith)))
+
+team-record-le : (c : ℕ) (m : Team) → c < 128 → length (bytesOf (teamRecord c m)) ≤ 25
+unfolding writeContent
+team-record-le c (Number n) h =
+    let vs = num (pos c) ∷ num n ∷ [] in
+    one-le (content (Named PlayerTeam) vs) 25
+    (ex-le (idAt PlayerTeam) (payloadBytes (payloadAt PlayerTeam) vs) team-id (load-le c n h))
+team-record-le c NoTeam h = none-le 25
+
+-- of the clients that have entries
+pub team-le : (c : ℕ) (m n : Team) → c < 128 → length (bytesOf (teamStep c m n)) ≤ 25
+unfolding teamStep
+team-le c m n h = one-of-le (sameTeam m n) [] (teamRecord c n) 25 (none-le 25) (team-record-le c n h)
+
 -- ---- all of them
 
 pub players-le : (e w : Entries) (n : ℕ) → n ≤ 128 → length (bytesOf (joined n (playerFor e w))) ≤ n * 15
@@ -228,12 +276,21 @@ changes-le e w =
     (joined-le 128 _ 15 (λ c g. player-le _ _ _ (omega arith)))
     (inputs-le e w 128)
 
-pub chosen-le : (s : Scalars) (e : Entries) (u : ℤ) (w : Entries) → length (bytesOf (chosen s e u w)) ≤ 16384
+pub teams-le : (t wt : List ℤ) (n : ℕ) → n ≤ 128 → length (bytesOf (joined n (teamFor t wt))) ≤ n * 25
+teams-le t wt n h = joined-le n (teamFor t wt) 25 (λ c g. team-le c (teamOf t (pos c)) (teamOf wt (pos c)) (omega arith))
+
+pub all-changes-le : (e : Entries) (t : List ℤ) (w : Entries) (wt : List ℤ) → length (bytesOf (allChanges e t w wt)) ≤ 12800
+unfolding allChanges
+all-changes-le e t w wt =
+    bytes-append-le (changes e w) (joined 128 (teamFor t wt)) 9600 3200 (changes-le e w) (teams-le t wt 128 (omega arith))
+
+pub chosen-le : (s : Scalars) (e : Entries) (t : List ℤ) (u : ℤ) (w : Entries) (wt : List ℤ)
+    → length (bytesOf (chosen s e t u w wt)) ≤ 16384
 unfolding chosen
-chosen-le s e u w =
+chosen-le s e t u w wt =
     let started = startedBy (s .inside) (s .tick) u in
-    let some = isSome (changes e w) in
-    let front = bytes-append-le (skipTo (s .tick) u) (changes e w) 10 9600 (skip-le (s .tick) u) (changes-le e w) in
-    let all : length (bytesOf (chosen s e u w)) ≤ 9635 =
-    bytes-append-le (skipTo (s .tick) u ++ changes e w) (startIf started some) 9610 25 front (start-le started some) in
+    let cs = allChanges e t w wt in
+    let front = bytes-append-le (skipTo (s .tick) u) cs 10 12800 (skip-le (s .tick) u) (all-changes-le e t w wt) in
+    let all : length (bytesOf (chosen s e t u w wt)) ≤ 12835 =
+    bytes-append-le (skipTo (s .tick) u ++ cs) (startIf started (isSome cs)) 12810 25 front (start-le started (isSome cs)) in
     omega arith

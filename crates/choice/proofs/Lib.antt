@@ -4,6 +4,7 @@ pub mod Passes
 pub mod Players
 pub mod Inputs
 pub mod Allowed
+pub mod Teams
 pub mod Skips
 pub mod Reaches
 pub mod Cant

@@ -12,19 +12,42 @@ use Rattle.refusal.specs.Said.{Said, gives, refuses, refusing}
 use Rattle.refusal.specs.declared.Refusal.the-variants.{ShortTarget}
 use Rattle.varint.specs.Written.{writing}
 use Rattle.kinds.specs.declared.Kind.the-variants as kinds
-use Rattle.state.specs.State.{goodReader}
 use Rattle.state.specs.Reading.{isClosed}
 use Rattle.state.specs.declared.Entries.{Entries}
 use Rattle.state.specs.declared.Scalars.{Scalars}
 use Rattle.state.proofs.Every.{by-cond}
 use Rattle.state.proofs.Numbers.{picks-first, picks-second}
+use Rattle.teams.specs.Teams.{goodTeamReader}
+use Rattle.teams.specs.declared.Team.{Team}
+use Rattle.teams.specs.declared.Team.the-variants.{Number, NoTeam}
 use Rattle.calls.specs.Calls.{isPending}
-use Rattle.back.specs.Board.{boardOf, goodBoard}
-use Rattle.back.specs.declared.Board.{Board}
+use Rattle.back.specs.Board.{boardOf}
+use Rattle.back.specs.TeamBoard.{goodTeamBoard}
+use Rattle.back.specs.declared.TeamBoard.{TeamBoard}
 use Rattle.back.specs.declared.BoardTick.{BoardTick}
 use Rattle.back.specs.declared.BoardTick.the-variants.{In, NoTick}
 use Rattle.demand.proofs.Tests.{and-both, same-refl, same-all-refl}
-use Rattle.choice.specs.Chosen.{samePlayer, sameHeld, Rec, ofNumbers, joined, playerBetween, playerStep, playerOf, playerFor, inputStep, heldOf, inputFor, changes, skipTo, startedBy, startIf, isSome, chosen, bytesOf}
+use Rattle.choice.specs.Chosen.{
+  samePlayer,
+  sameHeld,
+  Rec,
+  ofNumbers,
+  joined,
+  playerBetween,
+  playerStep,
+  inputStep,
+  changes,
+  sameTeam,
+  teamRecord,
+  teamStep,
+  allChanges,
+  skipTo,
+  startedBy,
+  startIf,
+  isSome,
+  chosen,
+  bytesOf,
+}
 use Rattle.choice.specs.Reaching.{unreachable, choiceTo, choice, May, mayReach, reachSays}
 use Rattle.choice.specs.declared.Player.{Player}
 use Rattle.choice.specs.declared.Held.{Held}
@@ -62,6 +85,18 @@ no-changes : (e : Entries) → changes e e ≡ []
 unfolding changes
 no-changes e = both-none _ _ (none-joined 128 _ (λ c. no-player _ _)) (none-joined 128 _ (λ c. no-input _ _))
 
+same-team : (m : Team) → sameTeam m m ≡ true
+same-team (Number n) = same-refl n
+same-team NoTeam = refl
+
+no-team : (c : ℕ) (m : Team) → teamStep c m m ≡ []
+unfolding teamStep
+no-team c m = sym (picks-first (sameTeam m m) [] (teamRecord c m) (same-team m))
+
+none-changed : (e : Entries) (t : List ℤ) → allChanges e t e t ≡ []
+unfolding allChanges
+none-changed e t = both-none _ _ (no-changes e) (none-joined 128 _ (λ c. no-team _ _))
+
 no-skip : (t : ℤ) → skipTo t t ≡ []
 unfolding skipTo
 no-skip (pos t) = rw (le-ltb t t (omega arith))
@@ -70,23 +105,25 @@ no-skip (negsuc t) = refl
 no-start : (i : Bool) (t : ℤ) (changed : Bool) → i ≡ true → startIf (startedBy i t t) changed ≡ []
 no-start i t changed h = rw (same-refl t, h)
 
-none-chosen : (s : Scalars) (e : Entries) → s .inside ≡ true → chosen s e (s .tick) e ≡ []
+none-chosen : (s : Scalars) (e : Entries) (t : List ℤ) → s .inside ≡ true → chosen s e t (s .tick) e t ≡ []
 unfolding chosen
-none-chosen s e i = rw (no-skip (s .tick), no-start (s .inside) (s .tick) (isSome (changes e e)) i, no-changes e)
+none-chosen s e t i = rw (no-skip (s .tick), no-start (s .inside) (s .tick) (isSome (allChanges e t e t)) i, none-changed e t)
 
 pub nothing-to-do : NothingToDo
 unfolding boardOf choice bytesOf
-nothing-to-do r u w e =
-    let b = inside-at (r .scalars .inside) (r .scalars .tick) u (ap (λ (x : Board). x .tick) e) in
-    let f : w ≡ r .entries = sym (ap (λ (x : Board). x .entries) e) in
-    let t : u ≡ r .scalars .tick = sym (b .1) in
-    rw (f, t, none-chosen (r .scalars) (r .entries) (b .0))
+nothing-to-do r u w wt e =
+    let s = r .reader .scalars in
+    let b = inside-at (s .inside) (s .tick) u (ap (λ (x : TeamBoard). x .board .tick) e) in
+    let f : w ≡ r .reader .entries = sym (ap (λ (x : TeamBoard). x .board .entries) e) in
+    let g : wt ≡ r .teams = sym (ap (λ (x : TeamBoard). x .teams) e) in
+    let t : u ≡ s .tick = sym (b .1) in
+    rw (f, g, t, none-chosen s (r .reader .entries) (r .teams) (b .0))
 
 -- ---- the target
 
-to-le : (s : Scalars) (e : Entries) (t : BoardTick) (w : Entries) → length (choiceTo s e t w) ≤ 16384
-to-le s e (In u) w = chosen-le s e u w
-to-le s e NoTick w = omega arith
+to-le : (s : Scalars) (e : Entries) (t : List ℤ) (k : BoardTick) (w : Entries) (wt : List ℤ) → length (choiceTo s e t k w wt) ≤ 16384
+to-le s e t (In u) w wt = chosen-le s e t u w wt
+to-le s e t NoTick w wt = omega arith
 
 number-is : {m n : ℕ} {k l : List ℤ} → _≡_ {A = Said ℕ} (refuses m k) (refuses n l) → m ≡ n
 number-is e = cc
@@ -103,14 +140,18 @@ pub target-suffices : TargetSuffices
 unfolding mayReach choice
 target-suffices r b xs h =
     let bs = choice r b in
-    let fits : length bs ≤ length xs = omega (arith, to-le (r .scalars) (r .entries) (b .tick) (b .entries)) in
+    let s = r .reader .scalars in
+    let e = r .reader .entries in
+    let k = b .board .tick in
+    let w = b .board .entries in
+    let fits : length bs ≤ length xs = omega (arith, to-le s e (r .teams) k w (b .teams)) in
     let P : May → Type 0 = λ m. reachSays m xs bs ≡ refusing ShortTarget → ⊥ in
-    by-cond P (goodReader r && goodBoard b)
-    (λ _. by-cond P (isClosed (r .scalars .standing))
+    by-cond P (goodTeamReader r && goodTeamBoard b)
+    (λ _. by-cond P (isClosed (s .standing))
     (λ _ e. omega (arith, number-is e))
-    (λ _. by-cond P (isPending (r .scalars .pending))
+    (λ _. by-cond P (isPending (s .pending))
     (λ _ e. omega (arith, number-is e))
-    (λ _. by-cond P (unreachable (r .scalars) (r .entries) (b .tick) (b .entries))
+    (λ _. by-cond P (unreachable s e (r .teams) k w (b .teams))
     (λ _ e. omega (arith, number-is e))
     (λ _. fits-not-short xs bs fits))))
     (λ _ e. omega (arith, number-is e))

@@ -1,11 +1,11 @@
 -- Records one behind the other, and those of one client after the other: where their bytes lead. Assumes nothing.
 use Prim.Native.Nat.{ℕ, zero, suc, _≤_, _<_}
 use mathlib.Core.Path.{_≡_, refl, sym, ap, _∙_}
-use mathlib.Core.Bool.{Bool, true, _||_, or-true, or-assoc, or-false}
+use mathlib.Core.Bool.{Bool, true, false, _||_, or-true, or-assoc, or-false}
 use mathlib.Core.List.{List, [], _∷_, _++_, append-nil}
 use native.Mathlib.Omega.{arith}
 use lib.ListN.{getD}
-use lib.IntN.{pos}
+use lib.IntN.{ℤ, pos}
 use mir.Syntax.{w32}
 use mir.Val.{SFits}
 use Rattle.kinds.specs.declared.Cid.{Cid}
@@ -14,9 +14,11 @@ use Rattle.state.specs.State.{holds, goodEntries}
 use Rattle.state.specs.Laws.{Sizes}
 use Rattle.state.specs.declared.Entries.{Entries}
 use Rattle.state.specs.declared.Reader.{Reader}
+use Rattle.teams.specs.Teams.{Joining}
+use Rattle.team_calls.proofs.Never.{call-version}
 use Rattle.choice.specs.Chosen.{Rec, joined, isSome, bytesOf}
-use Rattle.leading.specs.Leads.{Leads, there}
-use Rattle.leading.specs.Records.{Ready, Leaves}
+use Rattle.leading.specs.Leads.{Leads, there, takes, afterJoining, afterJoinings}
+use Rattle.leading.specs.Records.{Ready, LeadsWith}
 use Rattle.leading.proofs.Theorems.{leads-join}
 use Rattle.choice.proofs.Lengths.{bytes-append}
 
@@ -39,45 +41,84 @@ some-append : (a b : List Rec) → isSome (a ++ b) ≡ isSome a || isSome b
 some-append [] b = refl
 some-append (c ∷ a) b = refl
 
--- the records lead to a reader of which P holds, at the same tick, under way if it was so before or if there is a record
-pub record Comes (P : Reader → Type 0) (r : Reader) (cs : List Rec) : Type 0 where
+pub joinings-append : (i j : List Joining) (t : List ℤ) → afterJoinings (i ++ j) t ≡ afterJoinings j (afterJoinings i t)
+unfolding afterJoinings
+joinings-append [] j t = refl
+joinings-append (x ∷ i) j t = joinings-append i j (afterJoining x t)
+
+-- the version stays
+pub leads-version : {r to : Reader} {bytes : List ℕ} {js : List Joining} → Leads r bytes js to → to .scalars .version ≡ r .scalars .version
+leads-version there = refl
+leads-version (takes {r} piece rest e t l) =
+    leads-version l ∙ ap (λ (q : Reader). q .scalars .version) (sym (t .leaves [] false)) ∙ call-version r (piece ++ []) false
+
+-- the records lead to a reader of which P holds, at the same tick, under way if it was so before or if there is a record; the teams t become u
+pub record Comes (P : Reader → Type 0) (r : Reader) (t : List ℤ) (cs : List Rec) (u : List ℤ) : Type 0 where
   pub to : Reader
-  pub leads : Leads r (bytesOf cs) to
+  pub says : List Joining
+  pub leads : Leads r (bytesOf cs) says to
+  pub joins : afterJoinings says t ≡ u
   pub ready : Ready to
   pub at : to .scalars .tick ≡ r .scalars .tick
   pub within : to .scalars .inside ≡ r .scalars .inside || isSome cs
   pub keeps : P to
 
-pub none : {P : Reader → Type 0} (r : Reader) → Ready r → P r → Comes P r []
-unfolding bytesOf
+pub none : {P : Reader → Type 0} {t : List ℤ} (r : Reader) → Ready r → P r → Comes P r t [] t
+unfolding bytesOf afterJoinings
 none r ready p =
-    record { to = r; leads = there; ready = ready; at = refl; within = sym (or-false (r .scalars .inside)); keeps = p }
+    record {
+      to = r;
+      says = [];
+      leads = there;
+      joins = refl;
+      ready = ready;
+      at = refl;
+      within = sym (or-false (r .scalars .inside));
+      keeps = p;
+    }
 
-pub one : {P : Reader → Type 0} {r : Reader} (c : Rec) {p : Cid} {e : Entries} → Leaves r (writeContent c) p e
-    → ((q : Reader) → q .scalars .remembered ≡ p → q .entries ≡ e → P q) → Comes P r (c ∷ [])
+-- it has the version that r has
+pub one : {P : Reader → Type 0} {r : Reader} {t : List ℤ} (c : Rec) {p : Cid} {e : Entries} {f : List ℤ → List ℤ}
+    → LeadsWith r (writeContent c) (r .scalars .tick) true p e f
+    → ((q : Reader) → q .scalars .version ≡ r .scalars .version → q .scalars .remembered ≡ p → q .entries ≡ e → P q)
+    → Comes P r t (c ∷ []) (f t)
 unfolding bytesOf
-one {r = r} c l keeps =
+one {r = r} {t} c l keeps =
     record {
       to = l .to;
+      says = l .says;
       leads = rw append-nil (l .leads);
+      joins = l .joins t;
       ready = l .ready;
       at = l .at;
       within = l .within ∙ sym (or-true (r .scalars .inside));
-      keeps = keeps (l .to) (l .names) (l .holds);
+      keeps = keeps (l .to) (leads-version (l .leads)) (l .names) (l .holds);
     }
 
--- what it holds may be said in another way
-pub so : {P Q : Reader → Type 0} {r : Reader} {cs : List Rec} → ((q : Reader) → P q → Q q) → Comes P r cs → Comes Q r cs
+-- what it holds may be said in another way, and the version stays
+pub so : {P Q : Reader → Type 0} {r : Reader} {t u : List ℤ} {cs : List Rec}
+    → ((q : Reader) → q .scalars .version ≡ r .scalars .version → P q → Q q) → Comes P r t cs u → Comes Q r t cs u
 so f x =
-    record { to = x .to; leads = x .leads; ready = x .ready; at = x .at; within = x .within; keeps = f (x .to) (x .keeps) }
+    record {
+      to = x .to;
+      says = x .says;
+      leads = x .leads;
+      joins = x .joins;
+      ready = x .ready;
+      at = x .at;
+      within = x .within;
+      keeps = f (x .to) (leads-version (x .leads)) (x .keeps);
+    }
 
-pub join : {P Q : Reader → Type 0} {r : Reader} {a b : List Rec} → Comes P r a
-    → ((q : Reader) → Ready q → P q → Comes Q q b) → Comes Q r (a ++ b)
-join {P} {Q} {r} {a} {b} x f =
+pub join : {P Q : Reader → Type 0} {r : Reader} {t u v : List ℤ} {a b : List Rec} → Comes P r t a u
+    → ((q : Reader) → Ready q → P q → Comes Q q u b v) → Comes Q r t (a ++ b) v
+join {P} {Q} {r} {t} {u} {v} {a} {b} x f =
     let y = f (x .to) (x .ready) (x .keeps) in
     record {
       to = y .to;
-      leads = rw (bytes-append a b) (leads-join r (x .to) (y .to) (bytesOf a) (bytesOf b) (x .leads) (y .leads));
+      says = x .says ++ y .says;
+      leads = rw (bytes-append a b) (leads-join r (x .to) (y .to) (bytesOf a) (bytesOf b) (x .says) (y .says) (x .leads) (y .leads));
+      joins = joinings-append (x .says) (y .says) t ∙ ap (afterJoinings (y .says)) (x .joins) ∙ y .joins;
       ready = y .ready;
       at = y .at ∙ x .at;
       within =
@@ -88,10 +129,10 @@ join {P} {Q} {r} {a} {b} x f =
       keeps = y .keeps;
     }
 
--- one client after the other: P n holds before the records of client n
-module _ (P : ℕ → Reader → Type 0) (f : ℕ → List Rec) (m : ℕ)
-    (step : (q : Reader) (n : ℕ) → n < m → Ready q → P n q → Comes (P (suc n)) q (f n)) where
-  pub pass : (r : Reader) → Ready r → P 0 r → (n : ℕ) → n ≤ m → Comes (P n) r (joined n f)
+-- one client after the other: before the records of client n, P n holds and the teams are t n
+module _ (P : ℕ → Reader → Type 0) (t : ℕ → List ℤ) (f : ℕ → List Rec) (m : ℕ)
+    (step : (q : Reader) (n : ℕ) → n < m → Ready q → P n q → Comes (P (suc n)) q (t n) (f n) (t (suc n))) where
+  pub pass : (r : Reader) → Ready r → P 0 r → (n : ℕ) → n ≤ m → Comes (P n) r (t 0) (joined n f) (t n)
   unfolding joined
   pass r ready p zero h = none r ready p
   pass r ready p (suc n) h = join (pass r ready p n (omega arith)) (λ q s i. step q n (omega arith) s i)

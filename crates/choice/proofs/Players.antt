@@ -2,7 +2,7 @@
 use Prim.Native.Nat.{ℕ, suc, _≤_, _<_}
 use mathlib.Core.Path.{_≡_, refl, sym, ap, _∙_}
 use mathlib.Core.Bool.{true, false}
-use mathlib.Core.List.{[], _∷_}
+use mathlib.Core.List.{List, [], _∷_}
 use native.Mathlib.Omega.{arith}
 use lib.ListN.{getD}
 use lib.Dec.{eqb}
@@ -80,7 +80,7 @@ pub record Before (e w : Entries) (n : ℕ) (q : Reader) : Type 0 where
   pub holds : q .entries ≡ playersTo e w n
   pub rises : (c : ℕ) → n ≤ c → c < 128 → samePlayer (playerOf e c) (playerOf w c) ≡ false → Rises q c
 
-module _ (e w : Entries) (b : Between e w) (q : Reader) (n : ℕ) (h : n < 128) (ready : Ready q) (i : Before e w n q) where
+module _ (e w : Entries) (b : Between e w) (ts : List ℤ) (q : Reader) (n : ℕ) (h : n < 128) (ready : Ready q) (i : Before e w n q) where
   mark-is : getD (q .entries .marks) n 0 ≡ getD (e .marks) n 0
   mark-is = ap (λ (k : Entries). getD (k .marks) n 0) (i .holds) ∙ over-at 0 (w .marks) (e .marks) n n (omega arith)
 
@@ -101,12 +101,12 @@ module _ (e w : Entries) (b : Between e w) (q : Reader) (n : ℕ) (h : n < 128) 
 
   -- by a record of client n
   by-record : (c : Rec) {k : Entries} → Leaves q (writeContent c) (Of (pos n)) k → k ≡ playersTo e w (suc n)
-      → Comes (Before e w (suc n)) q (c ∷ [])
+      → Comes (Before e w (suc n)) q ts (c ∷ []) ts
   by-record c l p =
-      one c l (λ t names holds. record { holds = holds ∙ p; rises = λ d a _ _. rw (names, lt-ltb n d (omega arith)) })
+      one c l (λ t _ names holds. record { holds = holds ∙ p; rises = λ d a _ _. rw (names, lt-ltb n d (omega arith)) })
 
   -- without one
-  stays : Same e w n → Comes (Before e w (suc n)) q []
+  stays : Same e w n → Comes (Before e w (suc n)) q ts [] ts
   stays s =
       let p : playersTo e w n ≡ playersTo e w (suc n) =
       let marks = over-same 0 (w .marks) (e .marks) n (s .mark) in
@@ -122,7 +122,7 @@ module _ (e w : Entries) (b : Between e w) (q : Reader) (n : ℕ) (h : n < 128) 
     -- by differences of 32 bits that bring it there
     moves : (dx dy : ℤ) → SFits w32 dx → SFits w32 dy → wrap32 (xOf e n +ℤ dx) ≡ xOf w n → wrap32 (yOf e n +ℤ dy) ≡ yOf w n
         → eqb (getD (e .marks) n 0) 1 ≡ true → eqb (getD (w .marks) n 0) 1 ≡ true
-        → Comes (Before e w (suc n)) q (ofNumbers (kinds.PlayerDiff (pos n)) (dx ∷ dy ∷ []) ∷ [])
+        → Comes (Before e w (suc n)) q ts (ofNumbers (kinds.PlayerDiff (pos n)) (dx ∷ dy ∷ []) ∷ []) ts
     moves dx dy fx fy ex ey a c =
         let to-x : wrap32 (xOf (q .entries) n +ℤ dx) ≡ xOf w n = ap (λ (z : ℤ). wrap32 (z +ℤ dx)) x-is ∙ ex in
         let to-y : wrap32 (yOf (q .entries) n +ℤ dy) ≡ yOf w n = ap (λ (z : ℤ). wrap32 (z +ℤ dy)) y-is ∙ ey in
@@ -134,24 +134,24 @@ module _ (e w : Entries) (b : Between e w) (q : Reader) (n : ℕ) (h : n < 128) 
         (diff-leads q n dx dy ready h rises-here fx fy (present-is ∙ a)) p
 
     leaves : eqb (getD (e .marks) n 0) 1 ≡ true → eqb (getD (w .marks) n 0) 1 ≡ false
-        → Comes (Before e w (suc n)) q (ofNumbers (kinds.PlayerOld (pos n)) [] ∷ [])
+        → Comes (Before e w (suc n)) q ts (ofNumbers (kinds.PlayerOld (pos n)) [] ∷ []) ts
     leaves a c =
         let z = blank-player w (b .wanted) n h c in
         by-record _ (old-leads q n ready h rises-here (present-is ∙ a)) (placed 0 (pos 0) (pos 0) (z .mark) (z .x) (z .y))
 
     comes : eqb (getD (e .marks) n 0) 1 ≡ false → eqb (getD (w .marks) n 0) 1 ≡ true
-        → Comes (Before e w (suc n)) q (ofNumbers (kinds.PlayerNew (pos n)) (xOf w n ∷ yOf w n ∷ []) ∷ [])
+        → Comes (Before e w (suc n)) q ts (ofNumbers (kinds.PlayerNew (pos n)) (xOf w n ∷ yOf w n ∷ []) ∷ []) ts
     comes a c =
         by-record _ (new-leads q n (xOf w n) (yOf w n) ready h rises-here (b .xs n) (b .ys n) (present-is ∙ a))
         (placed 1 (xOf w n) (yOf w n) (eqb-true _ _ c) refl refl)
 
-    nobody : eqb (getD (e .marks) n 0) 1 ≡ false → eqb (getD (w .marks) n 0) 1 ≡ false → Comes (Before e w (suc n)) q []
+    nobody : eqb (getD (e .marks) n 0) 1 ≡ false → eqb (getD (w .marks) n 0) 1 ≡ false → Comes (Before e w (suc n)) q ts [] ts
     nobody a c =
         let y = blank-player e (b .now) n h a in
         let z = blank-player w (b .wanted) n h c in
         stays (record { mark = y .mark ∙ sym (z .mark); x = y .x ∙ sym (z .x); y = y .y ∙ sym (z .y) })
 
-    changes-it : Comes (Before e w (suc n)) q (playerFor e w n)
+    changes-it : Comes (Before e w (suc n)) q ts (playerFor e w n) ts
     unfolding playerStep
     changes-it =
         rw differs
@@ -159,10 +159,11 @@ module _ (e w : Entries) (b : Between e w) (q : Reader) (n : ℕ) (h : n < 128) 
         (λ a. by-bool (eqb (getD (w .marks) n 0) 1) (λ c. rw (a, c) (moves _ _ (wrap-within (xOf w n -ℤ xOf e n)) (wrap-within (yOf w n -ℤ yOf e n)) (back-by (xOf e n) (xOf w n) (b .xs n)) (back-by (yOf e n) (yOf w n) (b .ys n)) a c)) (λ c. rw (a, c) (leaves a c)))
         (λ a. by-bool (eqb (getD (w .marks) n 0) 1) (λ c. rw (a, c) (comes a c)) (λ c. rw (a, c) (nobody a c))))
 
-  step : Comes (Before e w (suc n)) q (playerFor e w n)
+  step : Comes (Before e w (suc n)) q ts (playerFor e w n) ts
   unfolding playerStep
   step = by-bool (samePlayer (playerOf e n) (playerOf w n)) (λ t. rw t (stays (told e w n t))) (λ t. changes-it t)
 
-module _ (e w : Entries) (b : Between e w) where
-  pub players-come : (r : Reader) → Ready r → Before e w 0 r → Comes (Before e w 128) r (joined 128 (playerFor e w))
-  players-come r ready i = pass (Before e w) (playerFor e w) 128 (λ q n h s k. step e w b q n h s k) r ready i 128 (omega arith)
+module _ (e w : Entries) (b : Between e w) (ts : List ℤ) where
+  pub players-come : (r : Reader) → Ready r → Before e w 0 r → Comes (Before e w 128) r ts (joined 128 (playerFor e w)) ts
+  players-come r ready i =
+      pass (Before e w) (λ _. ts) (playerFor e w) 128 (λ q n h s k. step e w b ts q n h s k) r ready i 128 (omega arith)

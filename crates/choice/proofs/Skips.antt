@@ -2,7 +2,7 @@
 use Prim.Native.Nat.{ℕ, _+_, _-_, _<_}
 use mathlib.Core.Path.{_≡_, refl, sym, ap, _∙_}
 use mathlib.Core.Bool.{Bool, true, false, not, false≢true}
-use mathlib.Core.List.{[], _∷_, append-nil}
+use mathlib.Core.List.{List, [], _∷_, append-nil}
 use native.Mathlib.Omega.{arith}
 use lib.Dec.{ltb}
 use lib.IntN.{ℤ, pos, negsuc}
@@ -17,9 +17,10 @@ use Rattle.state.specs.Laws.{ForgetsBetween}
 use Rattle.state.specs.declared.Entries.{Entries}
 use Rattle.state.specs.declared.Next.the-variants.{Tick}
 use Rattle.state.specs.declared.Reader.{Reader}
+use Rattle.teams.specs.Teams.{Joining}
 use Rattle.demand.proofs.Tests.{same-refl}
 use Rattle.choice.specs.Chosen.{playerOf, samePlayer, ofNumbers, skipTo, startedBy, bytesOf}
-use Rattle.leading.specs.Leads.{Leads, there}
+use Rattle.leading.specs.Leads.{Leads, there, afterJoinings}
 use Rattle.leading.specs.Records.{Ready, Rises}
 use Rattle.leading.proofs.Theorems.{skip-leads}
 use Rattle.choice.proofs.Allowed.{Allowed, rises-here}
@@ -64,7 +65,9 @@ started-is inside t u l = rw (l .first, l .second, ne-eqb (l .from) (l .until) (
 
 pub record Skipped (r : Reader) (u : ℤ) (w : Entries) : Type 0 where
   pub to : Reader
-  pub leads : Leads r (bytesOf (skipTo (r .scalars .tick) u)) to
+  pub says : List Joining
+  pub leads : Leads r (bytesOf (skipTo (r .scalars .tick) u)) says to
+  pub joins : (t : List ℤ) → afterJoinings says t ≡ t
   pub ready : Ready to
   pub at : to .scalars .tick ≡ u
   pub within : to .scalars .inside ≡ startedBy (r .scalars .inside) (r .scalars .tick) u
@@ -73,11 +76,13 @@ pub record Skipped (r : Reader) (u : ℤ) (w : Entries) : Type 0 where
 
 module _ (r : Reader) (u : ℤ) (w : Entries) (ready : Ready r) (a : Allowed r u w) where
   at-once : ForgetsBetween (r .scalars) → r .scalars .tick ≡ u → Skipped r u w
-  unfolding bytesOf
+  unfolding bytesOf afterJoinings
   at-once f here =
       record {
         to = r;
+        says = [];
         leads = rw (here, no-skip u) there;
+        joins = λ t. refl;
         ready = ready;
         at = here;
         within = rw (here, same-refl u);
@@ -95,7 +100,9 @@ module _ (r : Reader) (u : ℤ) (w : Entries) (ready : Ready r) (a : Allowed r u
       let s = skip-leads r (v - t - 1) u ready (omega arith) (rw (l .first, l .second) (next-is t v h top)) in
       record {
         to = s .to;
+        says = s .says;
         leads = rw (skip-is (r .scalars .tick) u l, append-nil) (s .leads);
+        joins = s .joins;
         ready = s .ready;
         at = s .at;
         within = s .within ∙ sym (started-is (r .scalars .inside) (r .scalars .tick) u l);

@@ -1,5 +1,5 @@
 -- The statements of specs/Laws.antt. Assumes nothing.
-use Rattle.choice.specs.Laws.{ChoiceReaches, ChoiceEnds, NothingToDo, TargetSuffices, CantBeDone}
+use Rattle.choice.specs.Laws.{ChoiceReaches, ChoiceEnds, NothingToDo, TargetSuffices, CantBeDone, ReachedNoTeamsIn1}
 use Rattle.choice.proofs.Reaches as reaches
 use Rattle.choice.proofs.Nothing as nothing
 use Rattle.choice.proofs.Cant as cant
@@ -18,3 +18,6 @@ target-suffices = nothing.target-suffices
 
 pub cant-be-done : CantBeDone
 cant-be-done = cant.cant-be-done
+
+pub reached-no-teams-in-1 : ReachedNoTeamsIn1
+reached-no-teams-in-1 = cant.reached-no-teams-in-1

@@ -10,11 +10,15 @@ use Rattle.fields.specs.Fields.{num, bytes, strings}
 use Rattle.kinds.specs.declared.Kind.{Kind}
 use Rattle.kinds.specs.declared.Kind.the-variants as kinds
 use Rattle.item.specs.Records.{Content, content}
-use Rattle.item.specs.declared.Tag.the-variants.{Plain}
+use Rattle.extensions.specs.declared.Extension.the-variants.{PlayerTeam}
+use Rattle.item.specs.declared.Tag.the-variants.{Plain, Named}
 use Rattle.written.specs.Written.{writeContent}
 use Rattle.state.specs.State.{sameInt, xOf, yOf, tenOf}
 use Rattle.state.specs.declared.Entries.{Entries}
 use Rattle.state.specs.declared.Scalars.{Scalars}
+use Rattle.teams.specs.Teams.{teamOf}
+use Rattle.teams.specs.declared.Team.{Team}
+use Rattle.teams.specs.declared.Team.the-variants.{Number, NoTeam}
 unfoldable pub use Rattle.compare.specs.Compare.{sameAll}
 use Rattle.choice.specs.declared.Player.{Player}
 use Rattle.choice.specs.declared.Held.{Held}
@@ -74,6 +78,28 @@ inputFor e w c = inputStep c (heldOf e c) (heldOf w c)
 unfoldable pub changes : Entries → Entries → List Rec
 changes e w = joined 128 (playerFor e w) ++ joined 128 (inputFor e w)
 
+-- ---- teams: a client's team, m now and n as wanted; who has one can't lose it
+
+abbrev pub sameTeam : Team → Team → Bool
+sameTeam (Number a) (Number b) = sameInt a b
+sameTeam (Number a) NoTeam = false
+sameTeam NoTeam (Number b) = false
+sameTeam NoTeam NoTeam = true
+
+abbrev pub teamRecord : ℕ → Team → List Rec
+teamRecord c (Number n) = content (Named PlayerTeam) (num (pos c) ∷ num n ∷ []) ∷ []
+teamRecord c NoTeam = []
+
+unfoldable pub teamStep : ℕ → Team → Team → List Rec
+teamStep c m n = cond (sameTeam m n) [] (teamRecord c n)
+
+abbrev pub teamFor : List ℤ → List ℤ → ℕ → List Rec
+teamFor t wt c = teamStep c (teamOf t (pos c)) (teamOf wt (pos c))
+
+-- behind the changes of entries, from the teams t to the teams wt
+unfoldable pub allChanges : Entries → List ℤ → Entries → List ℤ → List Rec
+allChanges e t w wt = changes e w ++ joined 128 (teamFor t wt)
+
 -- ---- ticks
 
 -- from tick t to tick u, if that is a later one
@@ -98,10 +124,11 @@ abbrev pub isSome : {A : Type 0} → List A → Bool
 isSome [] = false
 isSome (x ∷ xs) = true
 
--- ---- all of them, from scalars s and entries e to tick u with the entries w, and their bytes
+-- ---- all of them, from scalars s, entries e and teams t to tick u with the entries w and the teams wt, and their bytes
 
-unfoldable pub chosen : Scalars → Entries → ℤ → Entries → List Rec
-chosen s e u w = skipTo (s .tick) u ++ changes e w ++ startIf (startedBy (s .inside) (s .tick) u) (isSome (changes e w))
+unfoldable pub chosen : Scalars → Entries → List ℤ → ℤ → Entries → List ℤ → List Rec
+chosen s e t u w wt =
+    skipTo (s .tick) u ++ allChanges e t w wt ++ startIf (startedBy (s .inside) (s .tick) u) (isSome (allChanges e t w wt))
 
 unfoldable pub bytesOf : List Rec → List ℕ
 bytesOf [] = []

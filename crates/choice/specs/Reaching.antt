@@ -11,19 +11,21 @@ use Rattle.refusal.specs.declared.Refusal.the-variants.{BadState, Closed, MidRe
 use Rattle.varint.specs.Written.{written, wroteSaid, writing}
 use Rattle.varint.specs.declared.Wrote.{Wrote}
 use Rattle.kinds.specs.declared.Cid.{Cid}
-use Rattle.state.specs.State.{sameInt, holds, every, goodReader}
+use Rattle.kinds.specs.declared.Version.{Version}
+use Rattle.state.specs.State.{sameInt, holds, every, hasEx}
 use Rattle.state.specs.Reading.{isClosed, atOrBelow}
 use Rattle.state.specs.declared.Entries.{Entries}
 use Rattle.state.specs.declared.Scalars.{Scalars}
-use Rattle.state.specs.declared.Reader.{Reader}
+use Rattle.teams.specs.Teams.{hasTeam, goodTeamReader}
+use Rattle.teams.specs.declared.TeamReader.{TeamReader}
 use Rattle.calls.specs.Calls.{isPending}
-use Rattle.back.specs.Board.{goodBoard}
+use Rattle.back.specs.TeamBoard.{goodTeamBoard}
 use Rattle.back.specs.declared.BoardTick.{BoardTick}
 use Rattle.back.specs.declared.BoardTick.the-variants.{In, NoTick}
-use Rattle.back.specs.declared.Board.{Board}
+use Rattle.back.specs.declared.TeamBoard.{TeamBoard}
 use Rattle.choice.specs.Chosen.{playerOf, samePlayer, chosen, bytesOf}
 
--- ---- what can't be done: from scalars s and entries e to tick u with the entries w
+-- ---- what can't be done: from scalars s, entries e and teams t to tick u with the entries w and the teams wt
 
 -- the wanted tick is below the reader's
 abbrev pub tickBelow : Scalars → ℤ → Bool
@@ -33,6 +35,17 @@ tickBelow s u = ltZ u (s .tick)
 unfoldable pub losesInput : Entries → Entries → Bool
 losesInput e w = not (every 128 (λ c. cond (holds e c) (holds w c) true))
 
+-- a client has a team now and none in the wanted board
+unfoldable pub losesTeam : List ℤ → List ℤ → Bool
+losesTeam t wt = not (every 128 (λ c. cond (hasTeam t c) (hasTeam wt c) true))
+
+-- any team is wanted in version 1, which has no PlayerTeam
+unfoldable pub anyTeam : List ℤ → Bool
+anyTeam wt = not (every 128 (λ c. not (hasTeam wt c)))
+
+abbrev pub teamWithout : Version → List ℤ → Bool
+teamWithout v wt = not (hasEx v) && anyTeam wt
+
 -- a player entry differs at or below the remembered client
 unfoldable pub differsBehind : Cid → Entries → Entries → Bool
 differsBehind p e w = not (every 128 (λ c. cond (atOrBelow (pos c) p) (samePlayer (playerOf e c) (playerOf w c)) true))
@@ -41,22 +54,23 @@ differsBehind p e w = not (every 128 (λ c. cond (atOrBelow (pos c) p) (samePlay
 abbrev pub playerBehind : Scalars → Entries → ℤ → Entries → Bool
 playerBehind s e u w = (s .inside && sameInt u (s .tick)) && differsBehind (s .remembered) e w
 
-abbrev pub cantReach : Scalars → Entries → ℤ → Entries → Bool
-cantReach s e u w = tickBelow s u || (losesInput e w || playerBehind s e u w)
+abbrev pub cantReach : Scalars → Entries → List ℤ → ℤ → Entries → List ℤ → Bool
+cantReach s e t u w wt =
+    tickBelow s u || (losesInput e w || (losesTeam t wt || (teamWithout (s .version) wt || playerBehind s e u w)))
 
 -- 23: a wanted board outside a tick too
-abbrev pub unreachable : Scalars → Entries → BoardTick → Entries → Bool
-unreachable s e (In u) w = cantReach s e u w
-unreachable s e NoTick w = true
+abbrev pub unreachable : Scalars → Entries → List ℤ → BoardTick → Entries → List ℤ → Bool
+unreachable s e t (In u) w wt = cantReach s e t u w wt
+unreachable s e t NoTick w wt = true
 
 -- ---- the bytes of the chosen records
 
-abbrev pub choiceTo : Scalars → Entries → BoardTick → Entries → List ℕ
-choiceTo s e (In u) w = bytesOf (chosen s e u w)
-choiceTo s e NoTick w = []
+abbrev pub choiceTo : Scalars → Entries → List ℤ → BoardTick → Entries → List ℤ → List ℕ
+choiceTo s e t (In u) w wt = bytesOf (chosen s e t u w wt)
+choiceTo s e t NoTick w wt = []
 
-unfoldable pub choice : Reader → Board → List ℕ
-choice r b = choiceTo (r .scalars) (r .entries) (b .tick) (b .entries)
+unfoldable pub choice : TeamReader → TeamBoard → List ℕ
+choice r b = choiceTo (r .reader .scalars) (r .reader .entries) (r .teams) (b .board .tick) (b .board .entries) (b .teams)
 
 -- ---- the call
 
@@ -66,14 +80,15 @@ pub data May : Type 0 where
   mayNot : Refusal → May
 
 -- 17 (reader, board), 18, 22, 23
-unfoldable pub mayReach : Reader → Board → May
+unfoldable pub mayReach : TeamReader → TeamBoard → May
 mayReach r b =
-    cond (goodReader r && goodBoard b)
-    (cond (isClosed (r .scalars .standing))
+    cond (goodTeamReader r && goodTeamBoard b)
+    (cond (isClosed (r .reader .scalars .standing))
     (mayNot Closed)
-    (cond (isPending (r .scalars .pending))
+    (cond (isPending (r .reader .scalars .pending))
     (mayNot MidRecord)
-    (cond (unreachable (r .scalars) (r .entries) (b .tick) (b .entries)) (mayNot Unreachable) may)))
+    (cond (unreachable (r .reader .scalars) (r .reader .entries) (r .teams) (b .board .tick) (b .board .entries) (b .teams))
+    (mayNot Unreachable) may)))
     (mayNot BadState)
 
 -- then 9, else the number of bytes written, at the front of the target
@@ -86,6 +101,6 @@ reachLeaves may xs bs = written xs 0 bs
 reachLeaves (mayNot why) xs bs = xs
 
 -- the answer w on the target xs, and the target ys after it
-pub record ReachIs (r : Reader) (b : Board) (xs : List ℕ) (w : Wrote) (ys : List ℕ) : Type 0 where
+pub record ReachIs (r : TeamReader) (b : TeamBoard) (xs : List ℕ) (w : Wrote) (ys : List ℕ) : Type 0 where
   pub answer : wroteSaid w ≡ reachSays (mayReach r b) xs (choice r b)
   pub target : ys ≡ reachLeaves (mayReach r b) xs (choice r b)

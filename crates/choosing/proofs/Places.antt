@@ -14,13 +14,16 @@ use Rattle.num.specs.Wrap.{wrap32}
 use Rattle.item.specs.Contents.{recordWith, noArgs}
 use Rattle.item.specs.declared.Item.the-variants as items
 use Rattle.packer.specs.Parts.{part}
+use Rattle.kinds.specs.declared.Version.{Version}
 use Rattle.state.proofs.Numbers.{back, element}
-use Rattle.choice.specs.Chosen.{Rec, samePlayer, sameHeld, playerBetween, playerStep, inputStep, skipTo, startIf}
+use Rattle.teams.specs.declared.Team.{Team}
+use Rattle.teams.specs.declared.Team.the-variants.{Number, NoTeam}
+use Rattle.choice.specs.Chosen.{Rec, samePlayer, sameHeld, sameTeam, playerBetween, playerStep, inputStep, teamStep, skipTo, startIf}
 use Rattle.choice.specs.declared.Player.{Player}
 use Rattle.choice.specs.declared.Held.{Held}
-use Rattle.choosing.specs.Choice.{Chooses}
+use Rattle.choosing.specs.Choice.{ChoosesIn, Chooses, teamIn}
 use Rattle.choosing.specs.declared.Choice.{Choice}
-use Rattle.choosing.proofs.Forms.{alone, diff-chosen, new-chosen, old-chosen, skip-chosen, command-chosen, input-chosen}
+use Rattle.choosing.proofs.Forms.{alone, diff-chosen, new-chosen, old-chosen, skip-chosen, command-chosen, team-chosen, input-chosen}
 
 -- what a function answers, from the choice that another one made
 pub as-made : (cs : List Rec) (r d : Choice) → r ≡ d → Chooses cs d → Chooses cs r
@@ -79,6 +82,23 @@ module _ (c : ℕ) (p q : Held) (r : Choice) where
       → r ≡ record { there = true; value = recordWith (items.InputNew i) (q .ten) noArgs } → Chooses (inputStep c p q) r
   unfolding inputStep
   input-new e s i ei er = rw (er, ei, e, s) (input-chosen c (q .ten))
+
+-- ---- a team
+
+module _ (c : ℕ) (m n : Team) (r : Choice) (v : Version) where
+  pub team-same : sameTeam m n ≡ true → Chooses [] r → ChoosesIn v (teamStep c m n) r
+  unfolding teamStep
+  team-same e h = rw e (h v)
+
+  module _ (e : sameTeam m n ≡ false) where
+    pub team-none : n ≡ NoTeam → Chooses [] r → ChoosesIn v (teamStep c m n) r
+    unfolding teamStep
+    team-none en h = rw (e, en) (h v)
+
+    pub team-new : (k : ℤ) → n ≡ Number k → teamIn v n ≡ true → (i j : ℤ) → i ≡ pos c → j ≡ k → r ≡ alone (items.PlayerTeam i j)
+        → ChoosesIn v (teamStep c m n) r
+    unfolding teamStep
+    team-new k en h i j ei ej er = rw (er, ei, ej, e, en) (team-chosen v (rw en at h) c k)
 
 -- ---- ticks
 

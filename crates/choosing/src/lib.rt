@@ -4,15 +4,17 @@ ghost use mathlib.Core.Bool.{true};
 ghost use mathlib.Core.List.{[]};
 ghost use lib.IntN.{pos};
 ghost use Rattle.fields.specs.Views.{zeros};
+ghost use Rattle.kinds.specs.declared.Version.{Version};
 ghost use Rattle.item.specs.Contents.{recordWith, noArgs};
-ghost use Rattle.choice.specs.Chosen.{samePlayer, sameHeld, playerStep, inputStep, skipTo, startedBy, startIf};
-ghost use Rattle.choosing.specs.Choice.{Chooses};
+ghost use Rattle.choice.specs.Chosen.{samePlayer, sameHeld, sameTeam, playerStep, inputStep, teamStep, skipTo, startedBy, startIf};
+ghost use Rattle.choosing.specs.Choice.{ChoosesIn, Chooses, teamIn};
 use choice::Held;
 use choice::Player;
 use fields::Args;
 use item::Item;
 use item::Record;
 use packer::Part;
+use teams::Team;
 
 // A record, if there is one.
 pub struct Choice {
@@ -78,6 +80,21 @@ fn same_held(p: Held, q: Held) -> bool
     good::both(p.mark == q.mark, compare::same_ten(a, b))
 }
 
+fn same_team(m: Team, n: Team) -> bool
+    ensures { λ r. ⌜ r ≡ sameTeam m n ⌝ }
+{
+    match m {
+        Team::Number(a) => match n {
+            Team::Number(b) => compare::same_number(a, b),
+            Team::NoTeam => false,
+        },
+        Team::NoTeam => match n {
+            Team::Number(_) => false,
+            Team::NoTeam => true,
+        },
+    }
+}
+
 fn number(c: u8) -> i32
     ensures { λ r. ⌜ r ≡ pos c ⌝ }
 {
@@ -124,6 +141,22 @@ pub fn input_step(c: u8, p: Held, q: Held) -> Choice
     }
     let ten = q.ten;
     with_ten(true, Item::InputNew { cid: number(c) }, ten)
+}
+
+// The PlayerTeam of client c, from its team m to the wanted one, n; with no team wanted there is none, so it is for version 2 or nothing.
+pub fn team_step(c: u8, m: Team, n: Team) -> Choice
+    ensures { λ r. ⌜ ((v : Version) → teamIn v n ≡ true → ChoosesIn v (teamStep c m n) r) ⌝ }
+{
+    if same_team(m, n) {
+        return none();
+    }
+    let Team::Number(team) = n else {
+        return none();
+    };
+    plain(Item::PlayerTeam {
+        cid: number(c),
+        team,
+    })
 }
 
 // The TickSkip from tick t to tick u, if that is a later one.

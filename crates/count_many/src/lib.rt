@@ -4,7 +4,7 @@ ghost use Rattle.count.specs.Count.{versionIf, eventCount};
 ghost use Rattle.many.specs.Many.{haltOf};
 ghost use Rattle.count_many.specs.steps.Ends.{notFull};
 use many::Stop;
-use state::Reader;
+use teams::TeamReader;
 
 // A call reads 4,096 events: 4611686018427387904 calls in all.
 const TURNS: u64 = 1125899906842624;
@@ -28,7 +28,7 @@ pub extern "C" fn jolzerv_count_many(second: bool, body: &[u8]) -> u64
 {
     let mut rows = [0i32; 32768];
     let mut tens = [0i32; 81920];
-    let mut reader = Reader::empty(count::version_if(second));
+    let mut reader = TeamReader::empty(count::version_if(second));
     let mut at: usize = 0;
     let mut count: u64 = 0;
     let mut turns: u64 = TURNS;

@@ -7,4 +7,6 @@ pub mod Telling
 pub mod Steps
 pub mod Numbers
 pub mod Calls
+pub mod Boards
+pub mod Teams
 pub mod Theorem

@@ -29,7 +29,7 @@ use Rattle.demand.specs.Events.{
   sumOf,
   players,
 }
-use Rattle.demand.specs.Demand.{Told}
+use Rattle.demand.specs.Boards.{Told}
 use Rattle.demand.proofs.Wrap.{wrap-fits, wrap-add}
 use Rattle.demand.proofs.Tests.{same-refl}
 use Rattle.demand.proofs.Entries.{mark-set, x-set, y-set, players-set}

@@ -1,112 +1,99 @@
--- Demand 3 (specs/Demand.antt). Assumes nothing.
-use Prim.Native.Nat.{ℕ, zero, suc, _+_}
-use mathlib.Core.Path.{_≡_, refl, _∙_, ap}
-use mathlib.Core.Bool.{Bool, true, false, _&&_, false≢true}
-use mathlib.Core.List.{List, [], _∷_, _++_, append-assoc, append-nil}
-use lib.ListN.{getD, replicate}
-use lib.Dec.{ltb}
-use lib.IntN.{pos}
+-- Demand 3 (specs/Demand.antt): the part without teams, and above it the teams. Assumes nothing.
+use Prim.Native.Nat.{ℕ}
+use mathlib.Core.Path.{_≡_, refl, sym, ap, subst, _∙_}
+use mathlib.Core.Bool.{Bool, false, _||_}
+use mathlib.Core.List.{List, [], _∷_, _++_, map}
+use lib.IntN.{ℤ, pos}
 use Rattle.kinds.specs.declared.Version.{Version}
-use Rattle.state.specs.State.{present, noEntries, emptyReader}
-use Rattle.state.specs.Laws.{Sizes}
+use Rattle.state.specs.State.{emptyReader}
 use Rattle.state.specs.declared.Reader.{Reader}
-use Rattle.state.proofs.Board.{none-sizes}
+use Rattle.teams.specs.Teams.{teamOf, noTeams, teamReader, emptyTeamReader}
+use Rattle.teams.specs.Laws.{SoundTeams}
+use Rattle.teams.specs.declared.Team.the-variants.{NoTeam}
+use Rattle.teams.specs.declared.TeamReader.{TeamReader}
+use Rattle.teams.proofs.Theorems.{no-teams-sound, no-teams-none}
+use Rattle.calls.specs.Calls.{Call, Seen, after, events}
+use Rattle.team_calls.specs.Lists.{TeamSeen, nextTeam, teamAfter, teamEvents, teamsSoFar, formersSoFar}
+use Rattle.team_calls.proofs.Above.{teams-above, said-sound, good-call, first-left, rest, said, so-far-sound}
 use Rattle.back.specs.Board.{boardOf}
-use Rattle.back.specs.Back.{Back, was}
-use Rattle.calls.specs.Calls.{Call, call, next, Seen, isPending, eventOf, after, events}
-use Rattle.demand.specs.Events.{is13, meets13, backOne, backOver, count, isPresent, players}
-use Rattle.demand.specs.Demand.{Told, Demand3}
-use Rattle.demand.proofs.Tests.{or-false}
-use Rattle.demand.proofs.Steps.{Good}
-use Rattle.demand.proofs.Calls.{fair-call}
+use Rattle.back.specs.Back as back
+use Rattle.back.specs.TeamBoard.{teamBoardOf, was}
+use Rattle.demand.specs.Events.{is13, meets13, backOver}
+use Rattle.demand.specs.TeamEvents.{teamMeets13, teamBackOver}
+use Rattle.demand.specs.Boards.{Told, BoardKept}
+use Rattle.demand.specs.Demand.{BoardTold, Demand3}
+use Rattle.demand.proofs.Boards.{after-append, boards-kept}
+use Rattle.demand.proofs.Teams.{teams-had-back, teams-told, plain-events}
 
--- ---- lists of calls
+pub team-after-append : (r : TeamReader) (a b : List Call) → teamAfter r (a ++ b) ≡ teamAfter (teamAfter r a) b
+unfolding teamAfter
+team-after-append r [] b = refl
+team-after-append r (c ∷ a) b = team-after-append (nextTeam r c) a b
 
-back-append : (a : Back) (k l : List Seen) → backOver a (k ++ l) ≡ backOver (backOver a k) l
-unfolding backOver
-back-append a [] l = refl
-back-append a (s ∷ k) l = back-append (backOne a s) k l
+-- a refusal 13 is one of the calls without teams
+pub meets-same : (cs : List Call) (r : TeamReader) → SoundTeams (r .teams) → teamMeets13 r cs ≡ meets13 (r .reader) cs
+unfolding teamMeets13 meets13
+meets-same [] r s = refl
+meets-same (c ∷ cs) r s =
+    (λ i. is13 (good-call r c (s .good) i .step .said) || teamMeets13 (first-left r c s i) cs)
+    ∙ ap (λ (b : Bool). is13 (said r c s) || b) (meets-same cs (rest r c s) (said-sound (said r c s) (r .teams) s))
 
-after-append : (r : Reader) (a b : List Call) → after r (a ++ b) ≡ after (after r a) b
-unfolding after
-after-append r [] b = refl
-after-append r (c ∷ a) b = after-append (next r c) a b
+-- ---- from an empty reader r and teams t of which none is anyone's
 
--- no refusal 13 in two lists: none in the first, none in the second after it
-quiet-append : (r : Reader) (a b : List Call) → meets13 r (a ++ b) ≡ false → (meets13 r a ≡ false) × (meets13 (after r a) b ≡ false)
-unfolding after meets13
-quiet-append r [] b e = (refl, e)
-quiet-append r (c ∷ a) b e =
-    let o = or-false (is13 (call r c .said)) (meets13 (next r c) (a ++ b)) e in
-    let q = quiet-append (next r c) a b (o .1) in
-    (rw (o .0) (q .0), q .1)
+module _ (v : Version) (t : List ℤ) (sound : SoundTeams t) (before between : List Call) (plain : BoardKept v before between) where
+  abbrev start : TeamReader
+  start = teamReader (emptyReader v) t
 
--- ---- what one call keeps, each call of a list keeps
+  abbrev middle : Reader
+  middle = after (emptyReader v) before
 
-record Inv (r : Reader) (h : List Seen) : Type 0 where
-  sizes : Sizes (r .entries)
-  told : Told (r .entries) h
+  abbrev since : List Seen
+  since = events middle between
 
-module _ {r : Reader} {h : List Seen} (i : Inv r h) (c : Call) (cs : List Call) (e : meets13 r (c ∷ cs) ≡ false) where
-  first : Good (boardOf r) h (isPending (r .scalars .pending)) (c .window) (call r c)
-  unfolding meets13
-  first = fair-call r h (c .window) (c .last) (i .sizes) (i .told) (or-false (is13 (call r c .said)) (meets13 (next r c) cs) e .0)
+  abbrev held : List ℤ
+  held = teamsSoFar t (events (emptyReader v) before)
 
-  first-kept : Inv (next r c) (eventOf r c ++ h)
-  first-kept = record { sizes = first .sizes; told = first .told }
+  sound-held : SoundTeams held
+  sound-held = so-far-sound t (events (emptyReader v) before) sound
 
-  others : meets13 (next r c) cs ≡ false
-  unfolding meets13
-  others = or-false (is13 (call r c .said)) (meets13 (next r c) cs) e .1
+  to-middle : teamAfter start before ≡ teamReader middle held
+  to-middle = teams-above start before sound .left
 
-kept : (cs : List Call) {r : Reader} {h : List Seen} → Inv r h → meets13 r cs ≡ false → Inv (after r cs) (events r cs ++ h)
-unfolding after events
-kept [] i e = i
-kept (c ∷ cs) i e = rw append-assoc (kept cs (first-kept i c cs e) (others i c cs e))
+  to-end : teamAfter start (before ++ between) ≡ teamReader (after middle between) (teamsSoFar held since)
+  to-end =
+      team-after-append start before between ∙ ap (λ (r : TeamReader). teamAfter r between) to-middle
+      ∙ teams-above (teamReader middle held) between sound-held .left
 
-had-back : (cs : List Call) {r : Reader} {h : List Seen} → Inv r h → meets13 r cs ≡ false
-    → backOver (was (boardOf (after r cs))) (events r cs) ≡ was (boardOf r)
-unfolding after events backOver
-had-back [] i e = refl
-had-back (c ∷ cs) {r} i e =
-    let seen = eventOf r c in
-    back-append (was (boardOf (after (next r c) cs))) (events (next r c) cs) seen
-    ∙ ap (λ (a : Back). backOver a seen) (had-back cs (first-kept i c cs e) (others i c cs e))
-    ∙ first i c cs e .back
+  events-since : teamEvents (teamAfter start before) between ≡ formersSoFar held since
+  events-since = ap (λ (r : TeamReader). teamEvents r between) to-middle ∙ teams-above (teamReader middle held) between sound-held .same
 
--- ---- the empty reader
+  plain-back : backOver (back.was (boardOf (after middle between))) since ≡ back.was (boardOf middle)
+  plain-back = ap (λ (r : Reader). backOver (back.was (boardOf r)) since) (sym (after-append (emptyReader v) before between)) ∙ plain .back
 
-no-mark : (n c : ℕ) → getD (replicate {A = ℕ} n 0) c 0 ≡ 0
-no-mark zero c = refl
-no-mark (suc n) zero = refl
-no-mark (suc n) (suc c) = no-mark n c
+  had-back : teamBackOver (was (teamBoardOf (teamAfter start (before ++ between)))) (teamEvents (teamAfter start before) between)
+      ≡ was (teamBoardOf (teamAfter start before))
+  had-back =
+      (λ i. teamBackOver (was (teamBoardOf (to-end i))) (events-since i))
+      ∙ teams-had-back held sound-held since (boardOf (after middle between)) (boardOf middle) plain-back
+      ∙ ap (λ (r : TeamReader). was (teamBoardOf r)) (sym to-middle)
 
-and-no : (a : Bool) → a && false ≡ false
-and-no true = refl
-and-no false = refl
+  abbrev all : List Seen
+  all = events (emptyReader v) (before ++ between)
 
-nobody : (c : ℕ) → present noEntries c ≡ isPresent (pos c) []
-unfolding noEntries isPresent
-nobody c = rw (no-mark 128 c) (and-no (ltb c 128))
+  told-plain : Told (after (emptyReader v) (before ++ between) .entries) (map (λ (x : TeamSeen). x .seen) (formersSoFar t all))
+  told-plain = subst (Told (after (emptyReader v) (before ++ between) .entries)) (sym (plain-events t all)) (plain .told)
 
-no-players : players (replicate {A = ℕ} 128 0) + 0 ≡ 0
-unfolding players
-no-players = refl
-
-empty-told : Told noEntries []
-unfolding noEntries count isPresent
-empty-told = record { number = no-players; presence = nobody; negative = λ c. refl; position = λ c e. absurd (false≢true e) }
-
-empty-inv : (v : Version) → Inv (emptyReader v) []
-unfolding emptyReader
-empty-inv v = record { sizes = none-sizes; told = empty-told }
-
--- ---- the demand
+  told : ((c : ℕ) → teamOf t (pos c) ≡ NoTeam) → BoardTold (teamAfter start (before ++ between)) (teamEvents start (before ++ between))
+  told none =
+      let a = teams-above start (before ++ between) sound in
+      subst {A = TeamReader × List TeamSeen} (λ p. BoardTold (p .0) (p .1)) (λ i. (sym (a .left) i, sym (a .same) i))
+      (record { players = told-plain; teams = λ c h. teams-told t sound all c h (none c) })
 
 pub demand-3 : Demand3
+unfolding emptyTeamReader
 demand-3 v before between quiet =
-    let q = quiet-append (emptyReader v) before between quiet in
+    let plain = boards-kept v before between (sym (meets-same (before ++ between) (teamReader (emptyReader v) noTeams) no-teams-sound) ∙ quiet) in
     record {
-      back = rw (after-append (emptyReader v) before between) (had-back between (kept before (empty-inv v) (q .0)) (q .1));
-      told = rw append-nil at (kept (before ++ between) (empty-inv v) quiet .told);
+      back = had-back v noTeams no-teams-sound before between plain;
+      told = told v noTeams no-teams-sound before between plain (λ c. no-teams-none (pos c));
     }

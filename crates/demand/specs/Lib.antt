@@ -1,2 +1,4 @@
 pub mod Events
+pub mod TeamEvents
+pub mod Boards
 pub mod Demand

@@ -10,12 +10,12 @@ use Rattle.refusal.specs.declared.Refusal.{Refusal}
 use Rattle.refusal.specs.declared.Refusal.the-variants.{BadState, NotLast, TickGone}
 use Rattle.num.proofs.Cases.{by-bool}
 use Rattle.state.specs.State.{tenOf}
-use Rattle.state.specs.declared.Reader.{Reader}
 use Rattle.state.proofs.Every.{left-of, right-of, by-cond}
 use Rattle.state.proofs.Numbers.{picks-second}
-use Rattle.back.specs.Board.{boardOf, goodBoard}
+use Rattle.teams.specs.declared.TeamReader.{TeamReader}
+use Rattle.back.specs.TeamBoard.{teamBoardOf, goodTeamBoard}
 use Rattle.back.specs.declared.BoardTick.{BoardTick}
-use Rattle.back.specs.declared.Board.{Board}
+use Rattle.back.specs.declared.TeamBoard.{TeamBoard}
 use Rattle.reel.specs.Reel.{goodCounts, countsOf, undoIn, rowsOf}
 use Rattle.reel.specs.declared.Counts.{Counts}
 use Rattle.reel.specs.declared.Reel.{Reel}
@@ -47,12 +47,12 @@ use Rattle.going.proofs.Walks.{walk-go, walk-within}
 
 -- ---- starting, by what the search answers
 
-module _ (r : Reader) (l : Reel) (t : ℤ) where
-  starts : (x : Sought) → x ≡ soughtIn r l t → startOf (boardOf r) l t x ≡ startRewind r l t
+module _ (r : TeamReader) (l : Reel) (t : ℤ) where
+  starts : (x : Sought) → x ≡ soughtIn r l t → startOf (teamBoardOf r) l t x ≡ startRewind r l t
   unfolding startRewind
-  starts x e = ap (startOf (boardOf r) l t) e
+  starts x e = ap (startOf (teamBoardOf r) l t) e
 
-  module _ (n : ℕ) (found : soughts.Newer n ≡ soughtIn r l t) (b : Board) (copy : b ≡ boardOf r) where
+  module _ (n : ℕ) (found : soughts.Newer n ≡ soughtIn r l t) (b : TeamBoard) (copy : b ≡ teamBoardOf r) where
     pub started : record { answer = answers.Started; rewind = rewindOf b l (progressOf t n false) } ≡ startRewind r l t
     started = rw copy (starts (soughts.Newer n) found)
 
@@ -95,7 +95,7 @@ module _ (t : ℤ) (l : Reel) (n : ℕ) where
 
 -- ---- going on: g is the flag of the test of the copy and of the own reel, s that of the TickStart
 
-module _ (w : Rewind) (n : ℕ) (g : Bool) (good : g ≡ (goodBoard (w .board) && goodCounts (w .reel .counts))) where
+module _ (w : Rewind) (n : ℕ) (g : Bool) (good : g ≡ (goodTeamBoard (w .board) && goodCounts (w .reel .counts))) where
   pub bad : not g ≡ true → refusedGo BadState w ≡ goOn w n
   unfolding goOn
   bad q = rw (← good, not-true g q)
@@ -105,7 +105,7 @@ module _ (w : Rewind) (n : ℕ) (g : Bool) (good : g ≡ (goodBoard (w .board) &
   in-room q =
       let p = w .reel .counts .next in
       let c = w .reel .counts .count in
-      let e = right-of (goodBoard (w .board)) (goodCounts (w .reel .counts)) (sym good ∙ not-false g q) in
+      let e = right-of (goodTeamBoard (w .board)) (goodCounts (w .reel .counts)) (sym good ∙ not-false g q) in
       (ltb-true p 512 (left-of (ltb p 512) (leb c 512) e), leb-true c 512 (right-of (ltb p 512) (leb c 512) e))
 
   module _ (q : not g ≡ false) (s : Bool) (has : s ≡ hasStart w) where

@@ -7,10 +7,10 @@ use lib.Dec.{eqb}
 use lib.IntN.{ℤ, pos}
 use Rattle.refusal.specs.declared.Refusal.{Refusal}
 use Rattle.refusal.specs.declared.Refusal.the-variants.{BadState, NotLast, TickGone}
-use Rattle.state.specs.declared.Reader.{Reader}
-use Rattle.back.specs.Board.{boardOf, goodBoard}
-use Rattle.back.specs.declared.Board.{Board}
-use Rattle.taking.specs.Taking.{takenFrom}
+use Rattle.teams.specs.declared.TeamReader.{TeamReader}
+use Rattle.back.specs.TeamBoard.{teamBoardOf, goodTeamBoard}
+use Rattle.back.specs.declared.TeamBoard.{TeamBoard}
+use Rattle.taking.specs.Taking.{teamTakenFrom}
 use Rattle.reel.specs.Reel.{Row, placeBefore, countsOf, reelOf, goodReel, rowAt, rowsOf, emptyReel}
 use Rattle.reel.specs.declared.Reel.{Reel}
 use Rattle.rewinding.specs.Rewinding.{isStart, backRow, soughtIn, blankBoard}
@@ -27,7 +27,7 @@ abbrev pub progressOf : ℤ → ℕ → Bool → Progress
 progressOf t newer misfit = record { tick = t; newer = newer; misfit = misfit }
 
 -- its copy of the board, its own reel; its tick, how many rows of its reel are newer than its TickStart, and whether it met a misfit
-abbrev pub rewindOf : Board → Reel → Progress → Rewind
+abbrev pub rewindOf : TeamBoard → Reel → Progress → Rewind
 rewindOf b l k = record { board = b; reel = l; progress = k }
 
 -- ---- starting: nothing is stepped over yet
@@ -36,13 +36,13 @@ rewindOf b l k = record { board = b; reel = l; progress = k }
 abbrev pub noRewind : Rewind
 noRewind = rewindOf blankBoard emptyReel (progressOf (pos 0) 0 false)
 
-abbrev pub startOf : Board → Reel → ℤ → Sought → Start
+abbrev pub startOf : TeamBoard → Reel → ℤ → Sought → Start
 startOf b l t (soughts.Newer n) = record { answer = starts.Started; rewind = rewindOf b l (progressOf t n false) }
 startOf b l t (soughts.Refused r) = record { answer = starts.Refused r; rewind = noRewind }
 
 -- 17 (reader, reel), 18, 20
-unfoldable pub startRewind : Reader → Reel → ℤ → Start
-startRewind r l t = startOf (boardOf r) l t (soughtIn r l t)
+unfoldable pub startRewind : TeamReader → Reel → ℤ → Start
+startRewind r l t = startOf (teamBoardOf r) l t (soughtIn r l t)
 
 -- ---- going on
 
@@ -70,7 +70,7 @@ abbrev pub withoutNewest : Reel → Reel
 withoutNewest l = reelOf (countsOf (placeBefore (l .counts .next)) (l .counts .count - 1)) (l .rows) (l .inputs) (l .formers)
 
 -- after the newest event was stepped over, which left a board
-abbrev pub passed : Rewind → Board → Rewind
+abbrev pub passed : Rewind → TeamBoard → Rewind
 passed w b = rewindOf b (withoutNewest (w .reel)) (progressOf (w .progress .tick) (w .progress .newer - 1) (w .progress .misfit))
 
 -- the copy stays as it is
@@ -81,13 +81,13 @@ misfitting w = rewindOf (w .board) (w .reel) (progressOf (w .progress .tick) (w 
 unfoldable pub goOver : ℕ → Rewind → Go
 goOver zero w = standing w
 goOver (suc n) w =
-    let t = takenFrom (w .board) (backRow (newestOf (w .reel)) (w .board)) in
+    let t = teamTakenFrom (w .board) (backRow (newestOf (w .reel)) (w .board)) in
     cond (eqb (w .progress .newer) 0) (standing w)
     (cond (t .fits) (goOver n (passed w (t .board))) (refusedGo NotLast (misfitting w)))
 
 -- 17 (copy, reel), 20, then 19 for ever after a misfit
 unfoldable pub goOn : Rewind → ℕ → Go
 goOn w n =
-    cond (goodBoard (w .board) && goodReel (w .reel))
+    cond (goodTeamBoard (w .board) && goodReel (w .reel))
     (cond (hasStart w) (cond (w .progress .misfit) (refusedGo NotLast w) (goOver n w)) (refusedGo TickGone w))
     (refusedGo BadState w)

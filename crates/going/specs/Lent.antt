@@ -1,7 +1,10 @@
 -- A rewind under way whose arrays are lent.
 use mathlib.Core.Path.{_≡_}
+use mathlib.Core.List.{List}
+use lib.IntN.{ℤ}
 use Rattle.state.specs.declared.Entries.{Entries}
 use Rattle.back.specs.Board.{board}
+use Rattle.back.specs.TeamBoard.{teamBoard}
 use Rattle.reel.specs.declared.Reel.{Reel}
 use Rattle.going.specs.Going.{rewindOf}
 use Rattle.going.specs.declared.StartAnswer.{StartAnswer}
@@ -23,6 +26,6 @@ pub record StartIs (s : Start) (given own₀ : Reel) (r : LentStart) (own₁ : R
   pub progress : r .progress ≡ s .rewind .progress
   pub own : own₁ ≡ ownReel (s .answer) given own₀
 
--- what going on answers, of the entries that it leaves and of its own reel, of which only the counts change
-abbrev pub goIs : LentGo → Entries → Reel → Go
-goIs r e l = record { answer = r .answer; rewind = rewindOf (board (r .tick) e) l (r .progress) }
+-- what going on answers, of the entries and teams that it leaves and of its own reel, of which only the counts change
+abbrev pub goIs : LentGo → Entries → List ℤ → Reel → Go
+goIs r e t l = record { answer = r .answer; rewind = rewindOf (teamBoard (board (r .tick) e) t) l (r .progress) }

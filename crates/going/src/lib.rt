@@ -6,7 +6,8 @@ ghost use mathlib.Core.List.{List};
 ghost use lib.Dec.{eqb};
 ghost use lib.IntN.{ℤ, pos};
 ghost use Rattle.state.specs.State.{entriesWith};
-ghost use Rattle.back.specs.Board.{board, goodBoard};
+ghost use Rattle.back.specs.Board.{board};
+ghost use Rattle.back.specs.TeamBoard.{teamBoard, goodTeamBoard};
 ghost use Rattle.reel.specs.Reel.{goodCounts, reelOf, rowsOf};
 ghost use Rattle.rewinding.specs.Rewinding.{blankBoard};
 ghost use Rattle.going.specs.Going.{progressOf, rewindOf, startRewind, startBehind, goOn};
@@ -14,14 +15,14 @@ ghost use Rattle.going.specs.Lent.{StartIs, goIs};
 ghost use Rattle.going.specs.steps.Places.{placesBefore, lentOf};
 ghost use Rattle.going.specs.declared.StartAnswer.the-variants as starts;
 ghost use Rattle.going.specs.declared.GoAnswer.the-variants as answers;
-use back::Board;
 use back::BoardTick;
+use back::TeamBoard;
 use reel::Counts;
 use reel::Reel;
 use refusal::Refusal;
 use rewinding::Over;
 use rewinding::Sought;
-use state::Reader;
+use teams::TeamReader;
 
 // The tick, how many rows of the own reel are newer than its TickStart, and whether an event didn't fit.
 pub struct Progress {
@@ -32,7 +33,7 @@ pub struct Progress {
 
 // The copy of the board, the rewind's own reel, and how far it has come.
 pub struct Rewind {
-    pub board: Board,
+    pub board: TeamBoard,
     pub reel: Reel,
     pub progress: Progress,
 }
@@ -51,7 +52,7 @@ pub struct Start {
 // The same where the own reel's arrays are lent.
 pub struct LentStart {
     pub answer: StartAnswer,
-    pub board: Board,
+    pub board: TeamBoard,
     pub progress: Progress,
 }
 
@@ -76,7 +77,7 @@ pub struct LentGo {
 
 // ---- starting
 
-fn started(board: Board, tick: i32, newer: usize) -> LentStart
+fn started(board: TeamBoard, tick: i32, newer: usize) -> LentStart
     ensures { λ r. ⌜ r ≡ record { answer = starts.Started; board = board; progress = progressOf tick newer false } ⌝ }
 {
     LentStart {
@@ -107,7 +108,7 @@ fn refuse_start(why: Refusal) -> LentStart
 // Starts a rewind to just after the newest TickStart of a tick on a reel; nothing is stepped over yet. The reel is copied into the rewind's
 // own. Refused 17 (reader, reel), 18 (a reader closed by a refusal), 20 (no such TickStart), in this order; then the own reel stays as it was.
 pub fn start_lent(
-    reader: Reader,
+    reader: TeamReader,
     counts: Counts,
     rows: &[i32; 5120],
     inputs: &[i32; 5120],
@@ -129,7 +130,7 @@ pub fn start_lent(
             *own_rows = *rows;
             *own_inputs = *inputs;
             *own_formers = *formers;
-            started(back::board_of(reader), tick, newer)
+            started(back::team_board_of(reader), tick, newer)
         }
         Sought::Refused(why) => refuse_start(why),
     }
@@ -167,15 +168,19 @@ fn good_rewind<'a>(
     ys: &'a [i32; 128],
     held: &'a [u8; 128],
     inputs: &'a [i32; 1280],
+    teams: &'a [i32; 256],
     counts: Counts,
 ) -> bool
     ensures { λ r. ⌜
-        r ≡ (goodBoard (board tick (entriesWith (now (marks .entry)) (now (xs .entry)) (now (ys .entry)) (now (held .entry)) (now (inputs .entry)))) && goodCounts counts)
+        r ≡ (goodTeamBoard (teamBoard (board tick (entriesWith (now (marks .entry)) (now (xs .entry)) (now (ys .entry)) (now (held .entry)) (now (inputs .entry)))) (now (teams .entry))) && goodCounts counts)
         ⌝ }
 {
     let good = good::good_lent(marks, xs, ys, held, inputs);
     good::both(
-        good::both(stepping::good_tick(tick), good),
+        good::both(
+            good::both(stepping::good_tick(tick), good),
+            teams::good_teams(teams),
+        ),
         reel::good_counts(counts),
     )
 }
@@ -255,6 +260,7 @@ pub fn go_lent(
     ys: &mut [i32; 128],
     held: &mut [u8; 128],
     inputs: &mut [i32; 1280],
+    teams: &mut [i32; 256],
     counts: Counts,
     rows: &[i32; 5120],
     tens: &[i32; 5120],
@@ -263,14 +269,14 @@ pub fn go_lent(
     events: usize,
 ) -> LentGo
     ensures { λ r. ⌜
-        goIs r (entriesWith (now (marks .exit)) (now (xs .exit)) (now (ys .exit)) (now (held .exit)) (now (inputs .exit)))
+        goIs r (entriesWith (now (marks .exit)) (now (xs .exit)) (now (ys .exit)) (now (held .exit)) (now (inputs .exit))) (now (teams .exit))
         (reelOf (r .counts) (now (rows .entry)) (now (tens .entry)) (now (formers .entry)))
         ≡ goOn
-        (rewindOf (board tick (entriesWith (now (marks .entry)) (now (xs .entry)) (now (ys .entry)) (now (held .entry)) (now (inputs .entry))))
+        (rewindOf (teamBoard (board tick (entriesWith (now (marks .entry)) (now (xs .entry)) (now (ys .entry)) (now (held .entry)) (now (inputs .entry)))) (now (teams .entry)))
         (reelOf counts (now (rows .entry)) (now (tens .entry)) (now (formers .entry))) progress) events
         ⌝ }
 {
-    if !good_rewind(tick, &*marks, &*xs, &*ys, &*held, &*inputs, counts) {
+    if !good_rewind(tick, &*marks, &*xs, &*ys, &*held, &*inputs, &*teams, counts) {
         return refuse(Refusal::BadState, tick, counts, progress);
     }
     if !has_start(counts, rows, progress.tick, progress.newer) {
@@ -287,6 +293,7 @@ pub fn go_lent(
         ys,
         held,
         inputs,
+        teams,
         counts.next,
         n,
         rows,
@@ -304,16 +311,17 @@ pub fn go_further(
     ys: &mut [i32; 128],
     held: &mut [u8; 128],
     inputs: &mut [i32; 1280],
+    teams: &mut [i32; 256],
     rows: &[i32; 5120],
     tens: &[i32; 5120],
     formers: &[i32; 5120],
     events: usize,
 ) -> LentGo
     ensures { λ r. ⌜
-        goIs r (entriesWith (now (marks .exit)) (now (xs .exit)) (now (ys .exit)) (now (held .exit)) (now (inputs .exit)))
+        goIs r (entriesWith (now (marks .exit)) (now (xs .exit)) (now (ys .exit)) (now (held .exit)) (now (inputs .exit))) (now (teams .exit))
         (reelOf (r .counts) (now (rows .entry)) (now (tens .entry)) (now (formers .entry)))
         ≡ goOn
-        (rewindOf (board (went .tick) (entriesWith (now (marks .entry)) (now (xs .entry)) (now (ys .entry)) (now (held .entry)) (now (inputs .entry))))
+        (rewindOf (teamBoard (board (went .tick) (entriesWith (now (marks .entry)) (now (xs .entry)) (now (ys .entry)) (now (held .entry)) (now (inputs .entry)))) (now (teams .entry)))
         (reelOf (went .counts) (now (rows .entry)) (now (tens .entry)) (now (formers .entry))) (went .progress)) events
         ⌝ }
 {
@@ -327,6 +335,7 @@ pub fn go_further(
         ys,
         held,
         inputs,
+        teams,
         counts,
         rows,
         tens,

@@ -13,11 +13,13 @@ use Rattle.num.proofs.Cases.{by-bool}
 use Rattle.refusal.specs.declared.Refusal.{Refusal}
 use Rattle.refusal.specs.declared.Refusal.the-variants.{Closed, TickGone}
 use Rattle.kinds.specs.declared.Version.{Version}
-use Rattle.state.specs.declared.Reader.{Reader}
-use Rattle.calls.specs.Calls.{Call, after, events}
+use Rattle.teams.specs.declared.TeamReader.{TeamReader}
+use Rattle.calls.specs.Calls.{Call}
+use Rattle.team_calls.specs.Lists.{teamAfter, teamEvents}
 use Rattle.back.specs.Board.{boardOf}
-use Rattle.back.specs.declared.Board.{Board}
-use Rattle.taking.specs.Taking.{Taken}
+use Rattle.back.specs.TeamBoard.{teamBoardOf}
+use Rattle.back.specs.declared.TeamBoard.{TeamBoard}
+use Rattle.taking.specs.Taking.{TeamTaken}
 use Rattle.reel.specs.Reel.{Row, rowsOf}
 use Rattle.reel.specs.declared.Reel.{Reel}
 use Rattle.reel.proofs.Ring.{rows-length, rows-taken}
@@ -56,17 +58,17 @@ not-newer e = let z : _≡_ {A = ℕ} 0 1 = cc in absurd (omega arith)
 
 module _ (v : Version) (before since : List Call) (t : ℤ) where
   -- the reader at the cut and at the end, and the reel there
-  abbrev from : Reader
+  abbrev from : TeamReader
   from = start v before since
 
-  abbrev to : Reader
+  abbrev to : TeamReader
   to = end v before since
 
   abbrev kept : Reel
   kept = reel v before since
 
   abbrev refusedReader : Bool
-  refusedReader = closedByRefusal (to .scalars .standing)
+  refusedReader = closedByRefusal (to .reader .scalars .standing)
 
   -- ---- the start
 
@@ -79,15 +81,15 @@ module _ (v : Version) (before since : List Call) (t : ℤ) where
   sought =
       rw (goods v before since, rows-are v before since, newer-take t 512 (rows v before since), had-in (hadAfter t from since) (split t since from))
 
-  begins : startRewind to kept t ≡ startOf (boardOf to) kept t (cond refusedReader (soughts.Refused Closed) (soughtHad (hadAfter t from since)))
+  begins : startRewind to kept t ≡ startOf (teamBoardOf to) kept t (cond refusedReader (soughts.Refused Closed) (soughtHad (hadAfter t from since)))
   unfolding startRewind
-  begins = ap (startOf (boardOf to) kept t) sought
+  begins = ap (startOf (teamBoardOf to) kept t) sought
 
   -- where the start finds TickStart: m events are newer
   record Found (m : ℕ) : Type 0 where
     pub unrefused : refusedReader ≡ false
     pub room : m < 512
-    pub board : Board
+    pub board : TeamBoard
     pub at-start : hadAfter t from since ≡ had board m
     pub before-it : BoardBefore m from since board
 
@@ -116,7 +118,7 @@ module _ (v : Version) (before since : List Call) (t : ℤ) where
     found = found-by refusedReader (hadAfter t from since) refl refl (split t since from) m (sym sought ∙ e)
 
     abbrev under : Rewind
-    under = rewindOf (boardOf to) kept (progressOf t m false)
+    under = rewindOf (teamBoardOf to) kept (progressOf t m false)
 
     started : startRewind to kept t ≡ record { answer = starts.Started; rewind = under }
     unfolding startRewind
@@ -138,9 +140,9 @@ module _ (v : Version) (before since : List Call) (t : ℤ) where
 
     -- ---- a call over n events, of which min n m are stepped over, with the board that reading had before these
 
-    module _ (n : ℕ) (b : Board) (p : BoardBefore (min n m) from since b) where
+    module _ (n : ℕ) (b : TeamBoard) (p : BoardBefore (min n m) from since b) where
       abbrev walked : Walked
-      walked = walk kept (min n m) (kept .counts .next) 0 (boardOf to)
+      walked = walk kept (min n m) (kept .counts .next) 0 (teamBoardOf to)
 
       walks : goOn under n ≡ goneFrom under walked
       walks = over n (tested under) ∙ walk-go n under
@@ -153,7 +155,7 @@ module _ (v : Version) (before since : List Call) (t : ℤ) where
       fewer : min n m < 512
       fewer = omega (arith, min-le-right n m, found .room)
 
-      newest-rows : take (min n m) (rowsOf kept) ≡ map rowOf (events (after from (p .upto)) (p .behind))
+      newest-rows : take (min n m) (rowsOf kept) ≡ map rowOf (teamEvents (teamAfter from (p .upto)) (p .behind))
       newest-rows =
           let k = p .number in
           (λ i. take (sym k i) (rows-are v before since i))
@@ -161,13 +163,13 @@ module _ (v : Version) (before since : List Call) (t : ℤ) where
 
       left : walked .taken ≡ record { fits = true; board = b }
       left =
-          walk-over kept (min n m) (kept .counts .next) 0 (boardOf to)
-          ∙ ap (λ (rs : List Row). stepOver rs (boardOf to)) (sym (rows-taken kept (min n m) held) ∙ newest-rows)
+          walk-over kept (min n m) (kept .counts .next) 0 (teamBoardOf to)
+          ∙ ap (λ (rs : List Row). stepOver rs (teamBoardOf to)) (sym (rows-taken kept (min n m) held) ∙ newest-rows)
           ∙ back v before since (p .upto) (p .behind) (p .cut) (found .unrefused)
-          ∙ ap (λ (a : Board). record { fits = true; board = a }) (sym (p .board))
+          ∙ ap (λ (a : TeamBoard). record { fits = true; board = a }) (sym (p .board))
 
       all-over : walked .over ≡ min n m
-      all-over = walk-all kept (min n m) (kept .counts .next) 0 (boardOf to) (ap (λ (x : Taken). x .fits) left) ∙ (omega arith)
+      all-over = walk-all kept (min n m) (kept .counts .next) 0 (teamBoardOf to) (ap (λ (x : TeamTaken). x .fits) left) ∙ (omega arith)
 
       copied : goOn under n .rewind .board ≡ b
       copied = ap (λ (g : Go). g .rewind .board) walks ∙ rw left
@@ -188,17 +190,17 @@ module _ (v : Version) (before since : List Call) (t : ℤ) where
           copy = rw (copied n (p .0) (p .1)) (p .1);
           end = λ h.
               let k : min n m ≡ m = min-eq-right h in
-              found .at-start ∙ ap (λ (b : Board). had b m) (sym (copied n (found .board) (rw k (found .before-it))));
+              found .at-start ∙ ap (λ (b : TeamBoard). had b m) (sym (copied n (found .board) (rw k (found .before-it))));
         }
 
     -- in calls of any numbers
     shows-split : (n : ℕ) (ms : List ℕ) → Shows t from since under (n + total ms) (goEach under n ms)
     unfolding boardOf
     shows-split n ms =
-        subst (Shows t from since under (n + total ms)) (sym (splits-add under (sound v before since .sizes) n ms)) (shows (n + total ms))
+        subst (Shows t from since under (n + total ms)) (sym (splits-add under (record { entries = sound v before since .reader .sizes; teams = sound v before since .teams .size }) n ms)) (shows (n + total ms))
 
-  shows-by : (x : Sought) → soughtIn to kept t ≡ x → startOf (boardOf to) kept t x .answer ≡ starts.Started → (n : ℕ) (ms : List ℕ)
-      → let w = startOf (boardOf to) kept t x .rewind in Shows t from since w (n + total ms) (goEach w n ms)
+  shows-by : (x : Sought) → soughtIn to kept t ≡ x → startOf (teamBoardOf to) kept t x .answer ≡ starts.Started → (n : ℕ) (ms : List ℕ)
+      → let w = startOf (teamBoardOf to) kept t x .rewind in Shows t from since w (n + total ms) (goEach w n ms)
   shows-by (soughts.Newer m) e h = shows-split m e
   shows-by (soughts.Refused r) e h = let z : _≡_ {A = ℕ} 0 1 = cc in absurd (omega arith)
 

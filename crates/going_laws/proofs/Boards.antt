@@ -51,6 +51,16 @@ use Rattle.back.specs.Back.{Back, was, refused, onlyIf, inTick, noTick, ofClien
 use Rattle.back.specs.declared.BoardTick.{BoardTick}
 use Rattle.back.specs.declared.BoardTick.the-variants.{In, NoTick}
 use Rattle.back.specs.declared.Board.{Board}
+use Rattle.back.specs.declared.TeamBoard.{TeamBoard}
+use Rattle.back.specs.TeamBoard.{TeamBack, teamBoardOf, goodTeamBoard, beside, fitsTeams, teamsBefore, takeOffTeam}
+use Rattle.back.specs.TeamBoard as teamed
+use Rattle.refusal.specs.declared.Refusal.the-variants.{NotLast}
+use Rattle.teams.specs.Teams.{goodTeams, Joining, joins, nobody, joiningOf, goodTeamReader}
+use Rattle.teams.specs.Laws.{SoundTeams}
+use Rattle.teams.specs.declared.Team.{Team}
+use Rattle.teams.specs.declared.TeamReader.{TeamReader}
+use Rattle.teams.proofs.Theorems.{put-sound}
+use Rattle.going_laws.specs.Laws.{BoardSizes}
 
 -- ---- no input in the place of one
 
@@ -103,16 +113,16 @@ module _ (e : Entries) (good : goodEntries e ≡ true) (s : Sizes e) (c : ℕ) (
 
 -- ---- a good board with the lengths that its arrays have
 
-pub record Fine (b : Board) : Type 0 where
-  pub good : goodBoard b ≡ true
-  pub sizes : Sizes (b .entries)
+record Fine (b : Board) : Type 0 where
+  good : goodBoard b ≡ true
+  sizes : Sizes (b .entries)
 
 fine : (k : BoardTick) (e : Entries) → goodTick k ≡ true → goodEntries e ≡ true → Sizes e → Fine (board k e)
 unfolding goodBoard
 fine k e t g s = record { good = and-both _ _ t g; sizes = s }
 
 -- what is left, if anything is
-abbrev pub Leaves : Back → Type 0
+abbrev Leaves : Back → Type 0
 Leaves (was b) = Fine b
 Leaves (refused r) = Unit {0}
 
@@ -169,7 +179,7 @@ module _ (ten former : List ℤ) (k : BoardTick) (e : Entries) (t : goodTick k �
       in-tick k _ t (λ i h. of-client z _ (λ c. only (holdsTen e ten c) _ (λ q. former-put i h c had (has-entry c _ _ q))))
   off (other r) = in-tick k _ t (λ i h. fine (In i) e h g s)
 
-pub leaves : (u : Event) (ten former : List ℤ) (b : Board) → Fine b → Leaves (takeOff u ten former (b .tick) (b .entries))
+leaves : (u : Event) (ten former : List ℤ) (b : Board) → Fine b → Leaves (takeOff u ten former (b .tick) (b .entries))
 unfolding goodBoard
 leaves u ten former b f =
     off ten former (b .tick) (b .entries) (left-of (goodTick (b .tick)) (goodEntries (b .entries)) (f .good))
@@ -181,9 +191,48 @@ tick-good : (i : Bool) (t : ℤ) → nonNeg t ≡ true → goodTick (tickOf i t)
 tick-good true t e = e
 tick-good false t e = refl
 
-pub reader-board : (r : Reader) → goodReader r ≡ true → goodBoard (boardOf r) ≡ true
+plain-board : (r : Reader) → goodReader r ≡ true → goodBoard (boardOf r) ≡ true
 unfolding goodReader goodScalars boardOf goodBoard
-reader-board r g =
+plain-board r g =
     let scalars : goodScalars (r .scalars) ≡ true = left-of (goodScalars (r .scalars)) (goodEntries (r .entries)) g in
     and-both _ _ (tick-good (r .scalars .inside) (r .scalars .tick) (left-of (nonNeg (r .scalars .tick)) _ scalars))
     (right-of (goodScalars (r .scalars)) (goodEntries (r .entries)) g)
+
+-- ---- the same with teams
+
+pub record TeamFine (b : TeamBoard) : Type 0 where
+  pub good : goodTeamBoard b ≡ true
+  pub sizes : BoardSizes b
+
+abbrev TeamLeaves : TeamBack → Type 0
+TeamLeaves (teamed.was b) = TeamFine b
+TeamLeaves (teamed.refused r) = Unit {0}
+
+beside-fine : (t : List ℤ) → SoundTeams t → (x : Back) → Leaves x → TeamLeaves (beside t x)
+unfolding goodTeamBoard
+beside-fine t s (was b) f = record { good = and-both _ _ (f .good) (s .good); sizes = record { entries = f .sizes; teams = s .size } }
+beside-fine t s (refused r) f = tt
+
+before-sound : (j : Joining) (m : Team) (t : List ℤ) → SoundTeams t → SoundTeams (teamsBefore j m t)
+before-sound (joins c n) m t s = put-sound t c m s
+before-sound nobody m t s = s
+
+by-fits : (b : Bool) (x : TeamBack) → TeamLeaves x → TeamLeaves (cond b x (teamed.refused NotLast))
+by-fits true x l = l
+by-fits false x l = tt
+
+pub team-leaves : (u : Event) (ten former : List ℤ) (m : Team) (b : TeamBoard) → TeamFine b → TeamLeaves (takeOffTeam u ten former m b)
+unfolding takeOffTeam goodTeamBoard
+team-leaves u ten former m b f =
+    let board-good = left-of (goodBoard (b .board)) (goodTeams (b .teams)) (f .good) in
+    let teams : SoundTeams (b .teams) = record { good = right-of (goodBoard (b .board)) (goodTeams (b .teams)) (f .good); size = f .sizes .teams } in
+    by-fits (fitsTeams (joiningOf u) (b .teams)) _
+    (beside-fine (teamsBefore (joiningOf u) m (b .teams)) (before-sound (joiningOf u) m (b .teams) teams)
+    (takeOff u ten former (b .board .tick) (b .board .entries))
+    (leaves u ten former (b .board) (record { good = board-good; sizes = f .sizes .entries })))
+
+pub reader-board : (r : TeamReader) → goodTeamReader r ≡ true → goodTeamBoard (teamBoardOf r) ≡ true
+unfolding goodTeamReader goodTeamBoard
+reader-board r g =
+    and-both _ _ (plain-board (r .reader) (left-of (goodReader (r .reader)) (goodTeams (r .teams)) g))
+    (right-of (goodReader (r .reader)) (goodTeams (r .teams)) g)

@@ -13,13 +13,12 @@ use Rattle.num.proofs.Cases.{by-bool}
 use Rattle.refusal.specs.declared.Refusal.{Refusal}
 use Rattle.refusal.specs.declared.Refusal.the-variants.{BadState, Closed, NotLast}
 use Rattle.fields.proofs.Answers.{and-split}
-use Rattle.state.specs.State.{goodReader}
-use Rattle.state.specs.declared.Reader.{Reader}
+use Rattle.teams.specs.Teams.{goodTeamReader}
+use Rattle.teams.specs.declared.TeamReader.{TeamReader}
 use Rattle.state.proofs.Every.{right-of}
-use Rattle.back.specs.Board.{boardOf, goodBoard}
-use Rattle.back.specs.Back.{was, refused}
-use Rattle.back.specs.declared.Board.{Board}
-use Rattle.taking.specs.Taking.{Taken}
+use Rattle.back.specs.TeamBoard.{was, refused, teamBoardOf, goodTeamBoard}
+use Rattle.back.specs.declared.TeamBoard.{TeamBoard}
+use Rattle.taking.specs.Taking.{TeamTaken}
 use Rattle.reel.specs.Reel.{Row, goodReel, rowsOf}
 use Rattle.reel.specs.declared.Reel.{Reel}
 use Rattle.reel.proofs.Ring.{rows-taken}
@@ -72,20 +71,20 @@ there t (x ∷ xs) = there-by t x xs (isStart t (x .undo)) (newerThan t xs) refl
 
 -- ---- what a start has tested
 
-pub record Tested (r : Reader) (l : Reel) (t : ℤ) (n : ℕ) : Type 0 where
-  pub board : goodBoard (boardOf r) ≡ true
+pub record Tested (r : TeamReader) (l : Reel) (t : ℤ) (n : ℕ) : Type 0 where
+  pub board : goodTeamBoard (teamBoardOf r) ≡ true
   pub reel : goodReel l ≡ true
   pub start : startBehind t n (rowsOf l) ≡ true
 
-abbrev SoughtIs : Reader → Reel → ℤ → Sought → Type 0
+abbrev SoughtIs : TeamReader → Reel → ℤ → Sought → Type 0
 SoughtIs r l t (soughts.Newer n) = Tested r l t n
 SoughtIs r l t (soughts.Refused x) = Unit {0}
 
-module _ (r : Reader) (l : Reel) (t : ℤ) where
-  sought-by : (g c : Bool) (y : Newer) → (goodReader r && goodReel l) ≡ g → There t (rowsOf l) y
+module _ (r : TeamReader) (l : Reel) (t : ℤ) where
+  sought-by : (g c : Bool) (y : Newer) → (goodTeamReader r && goodReel l) ≡ g → There t (rowsOf l) y
       → SoughtIs r l t (cond g (cond c (soughts.Refused Closed) (soughtOf y)) (soughts.Refused BadState))
   sought-by true false (newer n) e h =
-      let good = and-split (goodReader r) (goodReel l) e in
+      let good = and-split (goodTeamReader r) (goodReel l) e in
       record { board = reader-board r (good .0); reel = good .1; start = h }
   sought-by true false gone e h = tt
   sought-by true true y e h = tt
@@ -94,7 +93,7 @@ module _ (r : Reader) (l : Reel) (t : ℤ) where
   sought : SoughtIs r l t (soughtIn r l t)
   unfolding soughtIn
   sought =
-      sought-by (goodReader r && goodReel l) (closedByRefusal (r .scalars .standing)) (newerThan t (rowsOf l)) refl (there t (rowsOf l))
+      sought-by (goodTeamReader r && goodReel l) (closedByRefusal (r .reader .scalars .standing)) (newerThan t (rowsOf l)) refl (there t (rowsOf l))
 
   module _ (n : ℕ) (h : Tested r l t n) where
     below-count : n < l .counts .count
@@ -109,15 +108,15 @@ module _ (r : Reader) (l : Reel) (t : ℤ) where
 
 -- ---- a call over enough events
 
-abbrev begun : Board → Reel → ℤ → ℕ → Rewind
+abbrev begun : TeamBoard → Reel → ℤ → ℕ → Rewind
 begun b l t m = rewindOf b l (progressOf t m false)
 
-module _ (b : Board) (l : Reel) (t : ℤ) (m : ℕ) (x : Walked) where
+module _ (b : TeamBoard) (l : Reel) (t : ℤ) (m : ℕ) (x : Walked) where
   same-answer : (x .taken .fits ≡ true → x .over ≡ m) → goneFrom (begun b l t m) x .answer ≡ answerOf (copyOf (x .taken))
   same-answer all =
       by-bool (x .taken .fits) (λ e. let f : m - m ≡ 0 = omega arith in rw (e, all e, f)) (λ e. rw e)
 
-  same-copy : (a : Board) → copyOf (x .taken) ≡ was a → goneFrom (begun b l t m) x .rewind .board ≡ a
+  same-copy : (a : TeamBoard) → copyOf (x .taken) ≡ was a → goneFrom (begun b l t m) x .rewind .board ≡ a
   same-copy a e =
       by-bool (x .taken .fits)
       (λ f.
@@ -129,56 +128,56 @@ module _ (b : Board) (l : Reel) (t : ℤ) (m : ℕ) (x : Walked) where
       let z : _≡_ {A = ℕ} 0 1 = cc in
       absurd (omega arith))
 
-module _ (r : Reader) (l : Reel) (t : ℤ) (m : ℕ) (h : Tested r l t m) (n : ℕ) (enough : m ≤ n) where
+module _ (r : TeamReader) (l : Reel) (t : ℤ) (m : ℕ) (h : Tested r l t m) (n : ℕ) (enough : m ≤ n) where
   abbrev walked : Walked
-  walked = walk l m (l .counts .next) 0 (boardOf r)
+  walked = walk l m (l .counts .next) 0 (teamBoardOf r)
 
-  call-walks : goOn (begun (boardOf r) l t m) n ≡ goneFrom (begun (boardOf r) l t m) walked
+  call-walks : goOn (begun (teamBoardOf r) l t m) n ≡ goneFrom (begun (teamBoardOf r) l t m) walked
   unfolding goOn
   call-walks =
       rw (h .board, h .reel, h .start)
-      (walk-go n (begun (boardOf r) l t m)
-      ∙ ap (λ (k : ℕ). goneFrom (begun (boardOf r) l t m) (walk l k (l .counts .next) 0 (boardOf r))) (min-eq-right enough))
+      (walk-go n (begun (teamBoardOf r) l t m)
+      ∙ ap (λ (k : ℕ). goneFrom (begun (teamBoardOf r) l t m) (walk l k (l .counts .next) 0 (teamBoardOf r))) (min-eq-right enough))
 
-  walks-rows : walked .taken ≡ stepOver (take m (rowsOf l)) (boardOf r)
+  walks-rows : walked .taken ≡ stepOver (take m (rowsOf l)) (teamBoardOf r)
   walks-rows =
-      walk-over l m (l .counts .next) 0 (boardOf r)
-      ∙ ap (λ rs. stepOver rs (boardOf r)) (sym (rows-taken l m (omega (arith, below-count r l t m h))))
+      walk-over l m (l .counts .next) 0 (teamBoardOf r)
+      ∙ ap (λ rs. stepOver rs (teamBoardOf r)) (sym (rows-taken l m (omega (arith, below-count r l t m h))))
 
-  call-answers : goOn (begun (boardOf r) l t m) n .answer ≡ answerOf (copyOf (stepOver (take m (rowsOf l)) (boardOf r)))
+  call-answers : goOn (begun (teamBoardOf r) l t m) n .answer ≡ answerOf (copyOf (stepOver (take m (rowsOf l)) (teamBoardOf r)))
   call-answers =
       ap (λ (g : Go). g .answer) call-walks
-      ∙ same-answer (boardOf r) l t m walked (λ e. walk-all l m (l .counts .next) 0 (boardOf r) e ∙ (omega arith))
-      ∙ ap (λ (x : Taken). answerOf (copyOf x)) walks-rows
+      ∙ same-answer (teamBoardOf r) l t m walked (λ e. walk-all l m (l .counts .next) 0 (teamBoardOf r) e ∙ (omega arith))
+      ∙ ap (λ (x : TeamTaken). answerOf (copyOf x)) walks-rows
 
-  call-copies : (a : Board) → copyOf (stepOver (take m (rowsOf l)) (boardOf r)) ≡ was a → goOn (begun (boardOf r) l t m) n .rewind .board ≡ a
+  call-copies : (a : TeamBoard) → copyOf (stepOver (take m (rowsOf l)) (teamBoardOf r)) ≡ was a → goOn (begun (teamBoardOf r) l t m) n .rewind .board ≡ a
   call-copies a e =
-      ap (λ (g : Go). g .rewind .board) call-walks ∙ same-copy (boardOf r) l t m walked a (ap (λ (x : Taken). copyOf x) walks-rows ∙ e)
+      ap (λ (g : Go). g .rewind .board) call-walks ∙ same-copy (teamBoardOf r) l t m walked a (ap (λ (x : TeamTaken). copyOf x) walks-rows ∙ e)
 
 -- ---- both, by what the start has found
 
-module _ (r : Reader) (l : Reel) (t : ℤ) where
+module _ (r : TeamReader) (l : Reel) (t : ℤ) where
   abbrev Begins : Sought → Type 0
-  Begins s = startOf (boardOf r) l t s .answer ≡ starts.Started
+  Begins s = startOf (teamBoardOf r) l t s .answer ≡ starts.Started
 
   abbrev Enough : Sought → ℕ → Type 0
-  Enough s n = startOf (boardOf r) l t s .rewind .progress .newer ≤ n
+  Enough s n = startOf (teamBoardOf r) l t s .rewind .progress .newer ≤ n
 
-  refuses-by : (s : Sought) (x : Refusal) → startOf (boardOf r) l t s .answer ≡ starts.Refused x → stepBackTo (rowsOf l) (boardOf r) s ≡ refused x
+  refuses-by : (s : Sought) (x : Refusal) → startOf (teamBoardOf r) l t s .answer ≡ starts.Refused x → stepBackTo (rowsOf l) (teamBoardOf r) s ≡ refused x
   refuses-by (soughts.Newer m) x e = let z : _≡_ {A = ℕ} 0 1 = cc in absurd (omega arith)
   refuses-by (soughts.Refused y) x e = let q : y ≡ x = cc in rw q
 
-  enough-by : (s : Sought) → SoughtIs r l t s → startOf (boardOf r) l t s .rewind .progress .newer < 512
+  enough-by : (s : Sought) → SoughtIs r l t s → startOf (teamBoardOf r) l t s .rewind .progress .newer < 512
   enough-by (soughts.Newer m) h = below-room r l t m h
   enough-by (soughts.Refused y) h = omega arith
 
   answers-by : (s : Sought) → SoughtIs r l t s → Begins s → (n : ℕ) → Enough s n
-      → goOn (startOf (boardOf r) l t s .rewind) n .answer ≡ answerOf (stepBackTo (rowsOf l) (boardOf r) s)
+      → goOn (startOf (teamBoardOf r) l t s .rewind) n .answer ≡ answerOf (stepBackTo (rowsOf l) (teamBoardOf r) s)
   answers-by (soughts.Newer m) h b n e = call-answers r l t m h n e
   answers-by (soughts.Refused y) h b n e = let z : _≡_ {A = ℕ} 0 1 = cc in absurd (omega arith)
 
-  copy-by : (s : Sought) → SoughtIs r l t s → Begins s → (n : ℕ) → Enough s n → (a : Board) → stepBackTo (rowsOf l) (boardOf r) s ≡ was a
-      → goOn (startOf (boardOf r) l t s .rewind) n .rewind .board ≡ a
+  copy-by : (s : Sought) → SoughtIs r l t s → Begins s → (n : ℕ) → Enough s n → (a : TeamBoard) → stepBackTo (rowsOf l) (teamBoardOf r) s ≡ was a
+      → goOn (startOf (teamBoardOf r) l t s .rewind) n .rewind .board ≡ a
   copy-by (soughts.Newer m) h b n e = call-copies r l t m h n e
   copy-by (soughts.Refused y) h b n e = let z : _≡_ {A = ℕ} 0 1 = cc in absurd (omega arith)
 

@@ -4,15 +4,15 @@ use mathlib.Core.Path.{_≡_, refl}
 use lib.Dec.{eqb·suc-zero}
 use Rattle.refusal.specs.declared.Refusal.{Refusal}
 use Rattle.refusal.specs.declared.Refusal.the-variants.{NotLast}
-use Rattle.back.specs.Back.{Back, was, refused}
-use Rattle.back.specs.declared.Board.{Board}
+use Rattle.back.specs.TeamBoard.{TeamBack, was, refused}
+use Rattle.back.specs.declared.TeamBoard.{TeamBoard}
 use Rattle.rewinding.specs.Rewinding.{backRow}
 use Rattle.going.specs.Going.{standing, refusedGo, newestOf, passed, misfitting, goOver}
 use Rattle.going.specs.declared.Rewind.{Rewind}
 use Rattle.going.specs.declared.Go.{Go}
 
 -- the newest event taken off the copy
-abbrev pub offNewest : Rewind → Back
+abbrev pub offNewest : Rewind → TeamBack
 offNewest w = backRow (newestOf (w .reel)) (w .board)
 
 pub go-ended : (n : ℕ) (w : Rewind) → w .progress .newer ≡ 0 → goOver n w ≡ standing w
@@ -21,7 +21,7 @@ go-ended zero w e = refl
 go-ended (suc n) w e = rw e
 
 module _ (n : ℕ) (w : Rewind) (m : ℕ) (some : w .progress .newer ≡ suc m) where
-  pub go-passed : (a : Board) → offNewest w ≡ was a → goOver (suc n) w ≡ goOver n (passed w a)
+  pub go-passed : (a : TeamBoard) → offNewest w ≡ was a → goOver (suc n) w ≡ goOver n (passed w a)
   unfolding goOver
   go-passed a e = rw (some, eqb·suc-zero m, e)
 
@@ -33,12 +33,12 @@ module _
     (P : ℕ → Rewind → Go → Type 0)
     (none : (w : Rewind) → P 0 w (standing w))
     (ended : (n : ℕ) (w : Rewind) → w .progress .newer ≡ 0 → P n w (standing w))
-    (passes : (n : ℕ) (w : Rewind) (m : ℕ) (a : Board) → w .progress .newer ≡ suc m → offNewest w ≡ was a → P n (passed w a) (goOver n (passed w a))
+    (passes : (n : ℕ) (w : Rewind) (m : ℕ) (a : TeamBoard) → w .progress .newer ≡ suc m → offNewest w ≡ was a → P n (passed w a) (goOver n (passed w a))
     → P (suc n) w (goOver n (passed w a)))
     (misfits : (n : ℕ) (w : Rewind) (m : ℕ) (r : Refusal) → w .progress .newer ≡ suc m → offNewest w ≡ refused r
     → P (suc n) w (refusedGo NotLast (misfitting w)))
   where
-    by-back : (n : ℕ) (w : Rewind) (m : ℕ) → w .progress .newer ≡ suc m → ((v : Rewind) → P n v (goOver n v)) → (x : Back) → offNewest w ≡ x
+    by-back : (n : ℕ) (w : Rewind) (m : ℕ) → w .progress .newer ≡ suc m → ((v : Rewind) → P n v (goOver n v)) → (x : TeamBack) → offNewest w ≡ x
         → P (suc n) w (goOver (suc n) w)
     by-back n w m e rest (was a) o = rw (go-passed n w m e a o) (passes n w m a e o (rest (passed w a)))
     by-back n w m e rest (refused r) o = rw (go-misfit n w m e r o) (misfits n w m r e o)

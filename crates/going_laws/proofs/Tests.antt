@@ -10,19 +10,18 @@ use borrow.Author.Tests.{ltb-true, leb-true, lt-ltb, le-leb}
 use Rattle.refusal.specs.declared.Refusal.{Refusal}
 use Rattle.refusal.specs.declared.Refusal.the-variants.{BadState, NotLast, TickGone}
 use Rattle.fields.proofs.Answers.{and-both, and-split}
-use Rattle.state.specs.Laws.{Sizes}
 use Rattle.state.proofs.Every.{left-of, right-of}
-use Rattle.back.specs.Back.{was}
-use Rattle.back.specs.Board.{goodBoard}
-use Rattle.back.specs.Undo.{undone}
-use Rattle.back.specs.declared.Board.{Board}
+use Rattle.back.specs.TeamBoard.{was, goodTeamBoard}
+use Rattle.back.specs.Undo.{undone, formerIn}
+use Rattle.back.specs.declared.TeamBoard.{TeamBoard}
 use Rattle.reel.specs.Reel.{placeBefore, countsOf, reelOf, goodCounts, goodReel, rowAt, rowsBefore, rowsOf}
 use Rattle.reel.specs.declared.Counts.{Counts}
 use Rattle.reel.specs.declared.Reel.{Reel}
 use Rattle.rewinding.proofs.Steps.{before-below}
 use Rattle.going.specs.Going.{startBehind, hasStart, refusedGo, newestOf, withoutNewest, passed, goOver, goOn}
 use Rattle.going.specs.declared.Rewind.{Rewind}
-use Rattle.going_laws.proofs.Boards.{Fine, leaves}
+use Rattle.going_laws.specs.Laws.{BoardSizes}
+use Rattle.going_laws.proofs.Boards.{TeamFine, team-leaves}
 use Rattle.going_laws.proofs.Steps.{offNewest}
 
 -- ---- a reel without its newest row
@@ -58,7 +57,7 @@ module _ (l : Reel) where
 -- ---- what a call tests before it goes
 
 pub record Goes (w : Rewind) : Type 0 where
-  pub board : Fine (w .board)
+  pub board : TeamFine (w .board)
   pub reel : goodReel (w .reel) ≡ true
   pub start : hasStart w ≡ true
 
@@ -72,11 +71,11 @@ module _ (w : Rewind) (g : Goes w) where
   never-again n m = rw (g .board .good, g .reel, g .start, m)
 
   -- the newest event fitted
-  pub goes-passed : (m : ℕ) (a : Board) → w .progress .newer ≡ suc m → offNewest w ≡ was a → Goes (passed w a)
+  pub goes-passed : (m : ℕ) (a : TeamBoard) → w .progress .newer ≡ suc m → offNewest w ≡ was a → Goes (passed w a)
   goes-passed m a e o =
       let f : w .progress .newer - 1 ≡ m = omega arith in
       record {
-        board = rw o at (leaves (undone (newestOf (w .reel) .undo)) (newestOf (w .reel) .ten) (newestOf (w .reel) .former) (w .board) (g .board));
+        board = rw o at (team-leaves (undone (newestOf (w .reel) .undo)) (newestOf (w .reel) .ten) (newestOf (w .reel) .former) (formerIn (newestOf (w .reel) .undo)) (w .board) (g .board));
         reel = counts-less (w .reel .counts) (g .reel);
         start = rw f (start-less (w .reel) (w .progress .tick) m (rw e at (g .start)));
       }
@@ -85,17 +84,17 @@ module _ (w : Rewind) (g : Goes w) where
 
 pub data Calls (w : Rewind) : Type 0 where
   refuses : (r : Refusal) → ((n : ℕ) → goOn w n ≡ refusedGo r w) → Calls w
-  goes : ((n : ℕ) → goOn w n ≡ goOver n w) → (Sizes (w .board .entries) → Goes w) → w .progress .misfit ≡ false → Calls w
+  goes : ((n : ℕ) → goOn w n ≡ goOver n w) → (BoardSizes (w .board) → Goes w) → w .progress .misfit ≡ false → Calls w
 
 module _ (w : Rewind) where
-  by-tests : (b s m : Bool) → (goodBoard (w .board) && goodReel (w .reel)) ≡ b → hasStart w ≡ s → w .progress .misfit ≡ m → Calls w
+  by-tests : (b s m : Bool) → (goodTeamBoard (w .board) && goodReel (w .reel)) ≡ b → hasStart w ≡ s → w .progress .misfit ≡ m → Calls w
   unfolding goOn
   by-tests false s m e f g = refuses BadState (λ n. rw e)
   by-tests true false m e f g = refuses TickGone (λ n. rw (e, f))
   by-tests true true true e f g = refuses NotLast (λ n. rw (e, f, g))
   by-tests true true false e f g =
-      let good = and-split (goodBoard (w .board)) (goodReel (w .reel)) e in
+      let good = and-split (goodTeamBoard (w .board)) (goodReel (w .reel)) e in
       goes (λ n. rw (e, f, g)) (λ sizes. record { board = record { good = good .0; sizes = sizes }; reel = good .1; start = f }) g
 
   pub tested : Calls w
-  tested = by-tests (goodBoard (w .board) && goodReel (w .reel)) (hasStart w) (w .progress .misfit) refl refl refl
+  tested = by-tests (goodTeamBoard (w .board) && goodReel (w .reel)) (hasStart w) (w .progress .misfit) refl refl refl

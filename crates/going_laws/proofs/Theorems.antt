@@ -7,9 +7,8 @@ use native.Mathlib.Omega.{arith}
 use lib.Dec.{eqb}
 use borrow.Author.Tests.{eqb-true}
 use Rattle.num.proofs.Cases.{by-bool}
-use Rattle.state.specs.Laws.{Sizes}
 use Rattle.going.specs.Going.{standing, misfitting, goOver, goOn}
-use Rattle.going_laws.specs.Laws.{goEach, total, SplitsAdd, isGoing, OverStays, EnoughEnds, RewindsInOne}
+use Rattle.going_laws.specs.Laws.{BoardSizes, goEach, total, SplitsAdd, isGoing, OverStays, EnoughEnds, RewindsInOne}
 use Rattle.going.specs.declared.Rewind.{Rewind}
 use Rattle.going.specs.declared.Go.{Go}
 use Rattle.going_laws.proofs.Steps.{go-ended, go-passed, go-misfit, by-steps}
@@ -35,19 +34,19 @@ twice =
     rw f (never-again (misfitting w) (record { board = g .board; reel = g .reel; start = g .start }) k refl ∙ sym (go-misfit (n + k) w m e r o)))
 
 abbrev Sized : ℕ → Rewind → Go → Type 0
-Sized n w g = Goes w → Sizes (g .rewind .board .entries)
+Sized n w g = Goes w → BoardSizes (g .rewind .board)
 
 sized : (n : ℕ) (w : Rewind) → Sized n w (goOver n w)
 sized =
     by-steps Sized (λ w g. g .board .sizes) (λ n w e g. g .board .sizes) (λ n w m a e o rest g. rest (goes-passed w g m a e o))
     (λ n w m r e o g. g .board .sizes)
 
-module _ (w : Rewind) (sizes : Sizes (w .board .entries)) (n : ℕ) where
+module _ (w : Rewind) (sizes : BoardSizes (w .board)) (n : ℕ) where
   both : (k : ℕ) → Calls w → goOn (goOn w n .rewind) k ≡ goOn w (n + k)
   both k (refuses r same) = rw (same n) (same k ∙ sym (same (n + k)))
   both k (goes over good m) = rw (over n) (twice n w (good sizes) m k ∙ sym (over (n + k)))
 
-  left-sizes : Calls w → Sizes (goOn w n .rewind .board .entries)
+  left-sizes : Calls w → BoardSizes (goOn w n .rewind .board)
   left-sizes (refuses r same) = rw (same n) sizes
   left-sizes (goes over good m) = rw (over n) (sized n w (good sizes))
 

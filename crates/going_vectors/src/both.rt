@@ -6,6 +6,7 @@ use crate::same::same_start;
 use crate::same::start_number;
 use crate::say_unless;
 use back::Board;
+use back::TeamBoard;
 use going::Go;
 use going::GoAnswer;
 use going::LentGo;
@@ -15,19 +16,19 @@ use kinds::Version;
 use reel::Counts;
 use reel::Reel;
 use state::Entries;
-use state::Reader;
+use teams::TeamReader;
 
 // ---- starting
 
 // The rewind of a start that is refused: without a reading there is no TickStart.
 pub fn none() -> Rewind {
-    let start = rewinds::start_rewind(Reader::empty(Version::V1), Reel::empty(), 0);
+    let start = rewinds::start_rewind(TeamReader::empty(Version::V1), Reel::empty(), 0);
     let rewind = start.rewind;
     rewind
 }
 
 // On lent arrays, of which those of the own reel are an old rewind's.
-fn start_lent(reader: Reader, given: Reel, tick: i32, old: Reel) -> Start {
+fn start_lent(reader: TeamReader, given: Reel, tick: i32, old: Reel) -> Start {
     let counts = given.counts;
     let rows = given.rows;
     let inputs = given.inputs;
@@ -92,7 +93,7 @@ fn lent_of(start: Start, counts: Counts, old: Reel) -> Start {
 }
 
 // By value and on lent arrays.
-pub fn start(reader: Reader, given: Reel, tick: i32, old: Rewind) -> Start {
+pub fn start(reader: TeamReader, given: Reel, tick: i32, old: Rewind) -> Start {
     let counts = given.counts;
     let own = old.reel;
     let made = rewinds::start_rewind(reader, given, tick);
@@ -169,6 +170,7 @@ fn walk_on(
     ys: &mut [i32; 128],
     held: &mut [u8; 128],
     inputs: &mut [i32; 1280],
+    teams: &mut [i32; 256],
     own: Reel,
     events: usize,
     most: usize,
@@ -187,6 +189,7 @@ fn walk_on(
             ys,
             held,
             inputs,
+            teams,
             &rows,
             &tens,
             &formers,
@@ -201,7 +204,8 @@ fn walk_on(
 
 // What stands before the first call.
 fn before(given: Rewind) -> LentGo {
-    let board = given.board;
+    let copy = given.board;
+    let board = copy.board;
     let tick = board.tick;
     let own = given.reel;
     let counts = own.counts;
@@ -214,27 +218,37 @@ fn before(given: Rewind) -> LentGo {
     }
 }
 
-fn rewind_of(went: LentGo, entries: Entries, own: Reel) -> Rewind {
+// What calls on lent arrays answer and leave.
+fn go_of(went: LentGo, entries: Entries, teams: [i32; 256], own: Reel) -> Go {
+    let answer = went.answer;
     let tick = went.tick;
     let counts = went.counts;
     let progress = went.progress;
     let rows = own.rows;
     let inputs = own.inputs;
     let formers = own.formers;
-    Rewind {
-        board: Board { tick, entries },
-        reel: Reel {
-            counts,
-            rows,
-            inputs,
-            formers,
+    Go {
+        answer,
+        rewind: Rewind {
+            board: TeamBoard {
+                board: Board { tick, entries },
+                teams,
+            },
+            reel: Reel {
+                counts,
+                rows,
+                inputs,
+                formers,
+            },
+            progress,
         },
-        progress,
     }
 }
 
 fn walk_lent(given: Rewind, events: usize, most: usize) -> Walked {
-    let board = given.board;
+    let copy = given.board;
+    let mut teams = copy.teams;
+    let board = copy.board;
     let entries = board.entries;
     let mut marks = entries.marks;
     let mut xs = entries.xs;
@@ -250,12 +264,12 @@ fn walk_lent(given: Rewind, events: usize, most: usize) -> Walked {
         &mut ys,
         &mut held,
         &mut inputs,
+        &mut teams,
         own,
         events,
         most,
     );
     let went = walked.went;
-    let answer = went.answer;
     let left = Entries {
         marks,
         xs,
@@ -264,10 +278,7 @@ fn walk_lent(given: Rewind, events: usize, most: usize) -> Walked {
         inputs,
     };
     Walked {
-        go: Go {
-            answer,
-            rewind: rewind_of(went, left, own),
-        },
+        go: go_of(went, left, teams, own),
         calls: walked.calls,
     }
 }

@@ -5,7 +5,7 @@
 //   1: a rewind to that tick starts, from reader and reel as they stand; where that is refused, the one before stays
 //   2: it goes so many events
 //   3: the same, and its copy is printed
-//   4: its tick is looked up, and the position and the inputs of that client on its copy
+//   4: its tick is looked up, and the position, the inputs and the team of that client on its copy
 //   5: a rewind to that tick in one call, beside a start and calls of 1, 7, 511 and 512 events each: how many calls those take. Unless the start is
 //      refused, the rewind that they leave stays
 // Before its first start each of the three is the blank one that a refusal hands out. Every start and every call is made by value and on lent
@@ -18,8 +18,8 @@ use crate::both::go;
 use crate::both::none;
 use crate::both::walk_both;
 use crate::same::go_number;
-use back::Board;
 use back::BoardTick;
+use back::TeamBoard;
 use feed::Hand;
 use going::Go;
 use going::GoAnswer;
@@ -29,13 +29,15 @@ use going::StartAnswer;
 use kinds::Version;
 use kinds::VersionOf;
 use libc::STDOUT_FILENO;
+use lookups::InputOf;
 use lookups::Pos;
 use reel::Counts;
 use reel::Reel;
 use refusal::Refusal;
 use rewinding::RewindAnswer;
 use rewinding::Rewound;
-use state::Reader;
+use teams::Team;
+use teams::TeamReader;
 use texts::Text;
 use varint::Wrote;
 
@@ -70,8 +72,8 @@ fn print_gone(answer: GoAnswer) {
     }
 }
 
-fn print_board(answer: GoAnswer, board: Board) {
-    let mut text = [0u8; 23324];
+fn print_board(answer: GoAnswer, board: TeamBoard) {
+    let mut text = [0u8; 27036];
     let Wrote::Past(n) = board_lines::write_gone(answer, board, &mut text, 0) else {
         return;
     };
@@ -113,7 +115,7 @@ fn step_at(case: &[u8], k: usize) -> Step
 
 // Reader and reel, and what is at hand of the body.
 struct Scene {
-    reader: Reader,
+    reader: TeamReader,
     reel: Reel,
     hand: Hand,
 }
@@ -130,7 +132,7 @@ fn come(hand: Hand, wants: bool, len: usize) -> Hand {
 }
 
 fn scene_of(
-    reader: Reader,
+    reader: TeamReader,
     counts: Counts,
     rows: [i32; 5120],
     inputs: [i32; 5120],
@@ -235,22 +237,37 @@ fn board_step(rewind: Rewind, events: usize) -> Rewind {
 
 // ---- looking at the copy
 
+fn print_pos(pos: Pos) {
+    match pos {
+        Pos::At { x, y } => print(texts::plain(b"at", &[x, y])),
+        Pos::NoPos => say(b"nowhere\n"),
+    }
+}
+
+fn print_input(looked: InputOf) {
+    let ten = looked.input;
+    if looked.there {
+        print(texts::plain(b"has", &ten));
+        return;
+    }
+    say(b"no inputs\n");
+}
+
+fn print_team(team: Team) {
+    match team {
+        Team::Number(n) => print(texts::plain(b"team", &[n])),
+        Team::NoTeam => say(b"team -\n"),
+    }
+}
+
 fn look_step(rewind: Rewind, cid: i32) -> Rewind {
     match rewinds::tick(rewind) {
         BoardTick::In(t) => print(texts::plain(b"tick", &[t])),
         BoardTick::NoTick => say(b"tick -\n"),
     }
-    match rewinds::player_pos(rewind, cid) {
-        Pos::At { x, y } => print(texts::plain(b"at", &[x, y])),
-        Pos::NoPos => say(b"nowhere\n"),
-    }
-    let looked = rewinds::input(rewind, cid);
-    let ten = looked.input;
-    if looked.there {
-        print(texts::plain(b"has", &ten));
-        return rewind;
-    }
-    say(b"no inputs\n");
+    print_pos(rewinds::player_pos(rewind, cid));
+    print_input(rewinds::input(rewind, cid));
+    print_team(rewinds::team(rewind, cid));
     rewind
 }
 
@@ -270,7 +287,7 @@ fn same_whole(whole: Rewound, gone: Go) -> bool {
     let other = left.board;
     let first = whole.answer;
     let last = gone.answer;
-    alike::same_board(one, other) & (number_of(first) == go_number(last))
+    team_alike::same_team_board(one, other) & (number_of(first) == go_number(last))
 }
 
 // More calls than there are events on a reel are not needed.
@@ -345,7 +362,7 @@ fn rewind_step(scene: Scene, rewind: Rewind, step: Step) -> Rewind {
 fn run_body(version: Version, body: &[u8], case: &[u8]) {
     let reel = Reel::empty();
     let mut scene = Scene {
-        reader: Reader::empty(version),
+        reader: TeamReader::empty(version),
         reel,
         hand: Hand::empty(),
     };

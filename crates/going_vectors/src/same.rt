@@ -39,7 +39,7 @@ pub fn same_rewind(a: Rewind, b: Rewind) -> bool {
     let others = b.reel;
     let far = a.progress;
     let further = b.progress;
-    alike::same_board(one, other) & same_reel(own, others) & same_progress(far, further)
+    team_alike::same_team_board(one, other) & same_reel(own, others) & same_progress(far, further)
 }
 
 pub fn start_number(answer: StartAnswer) -> u8 {

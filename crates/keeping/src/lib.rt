@@ -8,8 +8,9 @@ ghost use lib.IntN.{pos};
 ghost use Rattle.fields.specs.Views.{zeros};
 ghost use Rattle.state.specs.State.{tenOf, putTen};
 ghost use Rattle.state.specs.Views.{eventIs};
-ghost use Rattle.back.specs.Undo.{undoOf};
-ghost use Rattle.reel.specs.Reel.{flag, reelOf, keeping};
+ghost use Rattle.teams.specs.steps.Joinings.{joiningIs};
+ghost use Rattle.back.specs.Undo.{undoOf, undoJoining};
+ghost use Rattle.reel.specs.Reel.{flag, numbersOf, reelOf, keeping};
 ghost use Rattle.keeping.specs.steps.Lent.{Stored, keptIs};
 use reel::Counts;
 use reel::KeepAnswer;
@@ -17,6 +18,8 @@ use reel::KeptReel;
 use reel::Reel;
 use refusal::Refusal;
 use state::Event;
+use teams::Joining;
+use teams::Team;
 
 // What is answered, and the counts of the reel that is left.
 pub struct KeptCounts {
@@ -84,10 +87,31 @@ fn flag_of(b: bool) -> i32
     if b { 1 } else { 0 }
 }
 
+// The row of a record, in its place.
+fn put_record(rows: &mut [i32; 5120], p: usize, joining: Joining, team: Team)
+    requires { ⌜ p < 512 ⌝ }
+    ensures { λ _. ⌜ now (rows .exit) ≡ putTen (now (rows .entry)) p (numbersOf (undoJoining (joiningIs joining) team)) ⌝ }
+{
+    match joining {
+        Joining::Joins { cid, team: number } => put_row(
+            rows,
+            p,
+            8,
+            cid,
+            number,
+            teams::mark_for(team),
+            teams::number_for(team),
+            0,
+        ),
+        Joining::Nobody => put_row(rows, p, 7, 0, 0, 0, 0, 0),
+    }
+}
+
 // The row of an event, in its place.
 fn store(
     p: usize,
     event: Event,
+    team: Team,
     input: &[i32; 10],
     former: &[i32; 10],
     rows: &mut [i32; 5120],
@@ -95,7 +119,7 @@ fn store(
     formers: &mut [i32; 5120],
 )
     requires { ⌜ p < 512 ⌝ }
-    ensures { λ _. ⌜ Stored (undoOf (eventIs event)) p (now (input .entry)) (now (former .entry)) (now (rows .entry)) (now (inputs .entry)) (now (formers .entry)) (now (rows .exit)) (now (inputs .exit)) (now (formers .exit)) ⌝ }
+    ensures { λ _. ⌜ Stored (undoOf (eventIs event) team) p (now (input .entry)) (now (former .entry)) (now (rows .entry)) (now (inputs .entry)) (now (formers .entry)) (now (rows .exit)) (now (inputs .exit)) (now (formers .exit)) ⌝ }
 {
     match event {
         Event::TickStart(t) => put_row(rows, p, 1, t, 0, 0, 0, 0),
@@ -114,15 +138,16 @@ fn store(
             put_ten(&mut *inputs, p, *input);
             put_ten(&mut *formers, p, *former);
         }
-        Event::Record(_) => put_row(rows, p, 7, 0, 0, 0, 0, 0),
+        Event::Record(item) => put_record(rows, p, teams::joining_in(item), team),
     }
 }
 
 // An event in the next place of a reel whose arrays are lent, with the ten numbers and the former ten that stand beside it (of an input; else
-// they are not looked at). Refused 17, with nothing changed, where the counts pass the room.
+// they are not looked at); team is the former one beside a PlayerTeam. Refused 17, with nothing changed, where the counts pass the room.
 pub fn keep_lent(
     counts: Counts,
     event: Event,
+    team: Team,
     input: &[i32; 10],
     former: &[i32; 10],
     rows: &mut [i32; 5120],
@@ -131,7 +156,7 @@ pub fn keep_lent(
 ) -> KeptCounts
     ensures { λ r. ⌜
         keptIs r (now (rows .exit)) (now (inputs .exit)) (now (formers .exit))
-        ≡ keeping (reelOf counts (now (rows .entry)) (now (inputs .entry)) (now (formers .entry))) (eventIs event) (now (input .entry)) (now (former .entry))
+        ≡ keeping (reelOf counts (now (rows .entry)) (now (inputs .entry)) (now (formers .entry))) (eventIs event) (now (input .entry)) (now (former .entry)) team
         ⌝ }
 {
     if !reel::good_counts(counts) {
@@ -140,7 +165,16 @@ pub fn keep_lent(
             counts,
         };
     }
-    store(counts.next, event, input, former, rows, inputs, formers);
+    store(
+        counts.next,
+        event,
+        team,
+        input,
+        former,
+        rows,
+        inputs,
+        formers,
+    );
     KeptCounts {
         answer: KeepAnswer::Kept,
         counts: reel::one_more(counts),
@@ -148,8 +182,8 @@ pub fn keep_lent(
 }
 
 // The same for a reel by value.
-pub fn keep(reel: Reel, event: Event, input: [i32; 10], former: [i32; 10]) -> KeptReel
-    ensures { λ r. ⌜ r ≡ keeping reel (eventIs event) input former ⌝ }
+pub fn keep(reel: Reel, event: Event, input: [i32; 10], former: [i32; 10], team: Team) -> KeptReel
+    ensures { λ r. ⌜ r ≡ keeping reel (eventIs event) input former team ⌝ }
 {
     let counts = reel.counts;
     let mut rows = reel.rows;
@@ -158,6 +192,7 @@ pub fn keep(reel: Reel, event: Event, input: [i32; 10], former: [i32; 10]) -> Ke
     let kept = keep_lent(
         counts,
         event,
+        team,
         &input,
         &former,
         &mut rows,

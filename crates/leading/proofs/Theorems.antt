@@ -1,6 +1,6 @@
 -- The statements of specs/Laws.antt and specs/Records.antt. Assumes nothing.
 use Rattle.leading.specs.Laws.{LeadsInWindows, LeadsEnd}
-use Rattle.leading.specs.Records.{NewLeads, DiffLeads, OldLeads, InputLeads, CommandLeads, SkipLeads, LeadsJoin}
+use Rattle.leading.specs.Records.{NewLeads, DiffLeads, OldLeads, InputLeads, CommandLeads, TeamLeads, SkipLeads, LeadsJoin}
 use Rattle.leading.proofs.Windows as windows
 use Rattle.leading.proofs.Records as records
 
@@ -24,6 +24,9 @@ input-leads = records.input-leads
 
 pub command-leads : CommandLeads
 command-leads = records.command-leads
+
+pub team-leads : TeamLeads
+team-leads = records.team-leads
 
 pub skip-leads : SkipLeads
 skip-leads = records.skip-leads

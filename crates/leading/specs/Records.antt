@@ -14,8 +14,10 @@ use Rattle.kinds.specs.declared.Cid.{Cid}
 use Rattle.kinds.specs.declared.Cid.the-variants.{Of, NoCid}
 use Rattle.kinds.specs.declared.Kind.{Kind}
 use Rattle.kinds.specs.declared.Kind.the-variants as kinds
+use Rattle.kinds.specs.declared.Version.the-variants.{V2}
+use Rattle.extensions.specs.declared.Extension.the-variants.{PlayerTeam}
 use Rattle.item.specs.Records.{content}
-use Rattle.item.specs.declared.Tag.the-variants.{Plain}
+use Rattle.item.specs.declared.Tag.the-variants.{Plain, Named}
 use Rattle.written.specs.Written.{writeContent}
 use Rattle.state.specs.State.{present, xOf, yOf, withPlayer, moved, withInput}
 use Rattle.state.specs.Reading.{nextTick, atOrBelow}
@@ -25,7 +27,9 @@ use Rattle.state.specs.declared.Next.the-variants.{Tick}
 use Rattle.state.specs.declared.Pending.the-variants.{NoKind}
 use Rattle.state.specs.declared.Standing.the-variants.{Open}
 use Rattle.state.specs.declared.Reader.{Reader}
-use Rattle.leading.specs.Leads.{Leads}
+use Rattle.teams.specs.Teams.{Joining, putTeam}
+use Rattle.teams.specs.declared.Team.the-variants.{Number}
+use Rattle.leading.specs.Leads.{Leads, afterJoinings}
 
 -- good, open, nothing pending
 pub record Ready (r : Reader) : Type 0 where
@@ -33,15 +37,22 @@ pub record Ready (r : Reader) : Type 0 where
   pub reads : r .scalars .standing ≡ Open
   pub free : r .scalars .pending ≡ NoKind
 
--- the bytes lead to a reader like that, at this tick, inside it or not, with this remembered client and these entries
-pub record LeadsTo (r : Reader) (bs : List ℕ) (tick : ℤ) (inside : Bool) (p : Cid) (e : Entries) : Type 0 where
+-- the bytes lead to a reader like that, at this tick, inside it or not, with this remembered client and these entries; `teams` is what becomes of
+-- teams
+pub record LeadsWith (r : Reader) (bs : List ℕ) (tick : ℤ) (inside : Bool) (p : Cid) (e : Entries) (teams : List ℤ → List ℤ) : Type 0 where
   pub to : Reader
-  pub leads : Leads r bs to
+  pub says : List Joining
+  pub leads : Leads r bs says to
+  pub joins : (t : List ℤ) → afterJoinings says t ≡ teams t
   pub ready : Ready to
   pub at : to .scalars .tick ≡ tick
   pub within : to .scalars .inside ≡ inside
   pub names : to .scalars .remembered ≡ p
   pub holds : to .entries ≡ e
+
+-- the teams stay
+abbrev pub LeadsTo : Reader → List ℕ → ℤ → Bool → Cid → Entries → Type 0
+LeadsTo r bs tick inside p e = LeadsWith r bs tick inside p e (λ t. t)
 
 -- the written form of a record all of whose values are numbers
 abbrev pub written : Kind → List ℤ → List ℕ
@@ -83,6 +94,13 @@ CommandLeads =
     → Leaves r (writeContent (content (Plain kinds.ConsoleCommand) (num (negsuc 0) ∷ num (pos 0) ∷ bytes [] ∷ strings [] ∷ [])))
     (r .scalars .remembered) (r .entries)
 
+-- a PlayerTeam, in version 2
+abbrev pub TeamLeads : Type 0
+TeamLeads =
+    (r : Reader) (c : ℕ) (n : ℤ) → Ready r → r .scalars .version ≡ V2 → c < 128 → SFits w32 n
+    → LeadsWith r (writeContent (content (Named PlayerTeam) (num (pos c) ∷ num n ∷ []))) (r .scalars .tick) true (r .scalars .remembered)
+    (r .entries) (λ t. putTeam t (pos c) (Number n))
+
 -- inside a tick a skip ends it, outside it starts the next
 abbrev pub SkipLeads : Type 0
 SkipLeads =
@@ -91,4 +109,5 @@ SkipLeads =
 
 -- one behind the other
 abbrev pub LeadsJoin : Type 0
-LeadsJoin = (r middle to : Reader) (a b : List ℕ) → Leads r a middle → Leads middle b to → Leads r (a ++ b) to
+LeadsJoin =
+    (r middle to : Reader) (a b : List ℕ) (i j : List Joining) → Leads r a i middle → Leads middle b j to → Leads r (a ++ b) (i ++ j) to

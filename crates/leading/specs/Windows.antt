@@ -6,18 +6,20 @@ use mathlib.Core.List.{List, [], _∷_}
 use lib.ListN.{length, take, drop, replicate}
 use lib.Dec.{leb}
 use Rattle.item.specs.Said.{Said, gives, more, finish, refuses}
-use Rattle.state.specs.Reading.{Event, readCall, readerAfter}
+use Rattle.state.specs.Reading.{Event}
 use Rattle.state.specs.Laws.{usedIn}
 use Rattle.state.specs.declared.Pending.the-variants.{NoKind}
-use Rattle.state.specs.declared.Reader.{Reader}
-use Rattle.calls.specs.Calls.{Call, call}
+use Rattle.teams.specs.declared.TeamReader.{TeamReader}
+use Rattle.calls.specs.Calls.{Call}
+use Rattle.team_calls.specs.Reading.{teamCall, teamReaderAfter}
+use Rattle.team_calls.specs.Lists.{callTeam}
 
 -- a reader, and the bytes from its place on
 pub record At : Type 0 where
-  pub reader : Reader
+  pub reader : TeamReader
   pub bytes : List ℕ
 
-abbrev pub at : Reader → List ℕ → At
+abbrev pub at : TeamReader → List ℕ → At
 at r bytes = record { reader = r; bytes = bytes }
 
 -- a window of so many of them, and the flag that is wanted with it
@@ -31,7 +33,7 @@ callAt bytes c = record { window = take (c .size) bytes; last = leb (length byte
 
 -- after a call, and after several, each on the reader and at the place that the last one left
 abbrev pub step : At → Cut → At
-step s c = let t = call (s .reader) (callAt (s .bytes) c) in at (readerAfter t) (drop (usedIn (t .said)) (s .bytes))
+step s c = let t = callTeam (s .reader) (callAt (s .bytes) c) in at (teamReaderAfter t) (drop (usedIn (t .step .said)) (s .bytes))
 
 unfoldable pub reads : At → List Cut → At
 reads s [] = s
@@ -40,7 +42,7 @@ reads s (c ∷ cs) = reads (step s c) cs
 -- all bytes are used, and nothing is pending
 pub record Done (s : At) : Type 0 where
   pub used : s .bytes ≡ []
-  pub free : s .reader .scalars .pending ≡ NoKind
+  pub free : s .reader .reader .scalars .pending ≡ NoKind
 
 -- a call gives an event, or more where its window cuts a record: all the bytes give an event, which uses more than the window has; no finish
 -- and no refusal
@@ -51,10 +53,11 @@ EventOr cut (finish n) = ⊥
 EventOr cut (refuses n vs) = ⊥
 
 abbrev pub GoesOn : At → Cut → Type 0
-GoesOn s c = EventOr (c .size < usedIn (readCall (s .reader) (s .bytes) false .said)) (call (s .reader) (callAt (s .bytes) c) .said)
+GoesOn s c =
+    EventOr (c .size < usedIn (teamCall (s .reader) (s .bytes) false .step .said)) (callTeam (s .reader) (callAt (s .bytes) c) .step .said)
 
 -- whatever the windows: while it isn't done each call goes on, and where it is done the reader is as wanted
-pub record Leading (Wanted : Reader → Type 0) (s : At) : Type 0 where
+pub record Leading (Wanted : TeamReader → Type 0) (s : At) : Type 0 where
   pub goes : (Done s → ⊥) → (c : Cut) → GoesOn s c
   pub ends : Done s → Wanted (s .reader)
 

@@ -12,6 +12,7 @@ use many::Stop;
 use state::Answer;
 use state::Entries;
 use state::Reader;
+use teams::TeamReader;
 use texts::Text;
 use texts::Used;
 
@@ -132,10 +133,17 @@ fn print_stop(stop: Stop) {
     }
 }
 
+// Whether a reader is left as it was, and without teams.
+fn kept(left: TeamReader, reader: Reader) -> bool {
+    let plain = left.reader;
+    let teams = left.teams;
+    alike::same_reader(plain, reader) & all_are(&teams, 0)
+}
+
 fn print_many(name: &[u8], many: ManyAnswer, reader: Reader, lent: bool) {
     let left = many.reader;
     let stop = many.stop;
-    report(name, alike::same_reader(left, reader) & lent);
+    report(name, kept(left, reader) & lent);
     print_stop(stop);
 }
 
@@ -143,7 +151,11 @@ fn print_many(name: &[u8], many: ManyAnswer, reader: Reader, lent: bool) {
 fn by_many(name: &[u8], reader: Reader, rows: &mut [i32]) {
     let body = BODY;
     let mut tens = [4i32; 80];
-    let many = many::read_many(reader, &body, true, rows, &mut tens);
+    let given = TeamReader {
+        reader,
+        teams: [0; 256],
+    };
+    let many = many::read_many(given, &body, true, rows, &mut tens);
     print_many(name, many, reader, all_are(rows, 3) & all_are(&tens, 4));
 }
 

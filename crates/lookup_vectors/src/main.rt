@@ -1,15 +1,17 @@
 // Reads bodies with the reader by value and prints what lookups answer: the last line, then the board by the lookups of the reader. Standard
 // input holds inputs one behind the other, each after its length in three bytes, the low one first: 00, or 01 for the board after each event
-// too, by the lookups of a board; a version byte; a body.
+// too, by the lookups of a board; a version byte; a body. The teams of a board come behind all else of its clients.
 use back::BoardTick;
 use kinds::Version;
 use kinds::VersionOf;
 use libc::STDOUT_FILENO;
 use lookups::InputOf;
 use lookups::Pos;
-use reader::ReadAnswer;
 use state::Event;
 use state::Reader;
+use team_reading::TeamRead;
+use teams::Team;
+use teams::TeamReader;
 use texts::Text;
 use texts::Used;
 
@@ -52,7 +54,7 @@ fn print_inp(cid: i32, found: InputOf) {
     print_from(texts::line(Event::Input { cid, former: false }, numbers), 5);
 }
 
-// What a client has.
+// What a client has beside its team.
 struct Found {
     pos: Pos,
     input: InputOf,
@@ -92,6 +94,21 @@ fn narrow(n: i64) -> i32 {
     n as i32
 }
 
+// By the lookup of the reader, or by that of its board.
+fn team_of(reader: TeamReader, cid: i32, on_board: bool) -> Team {
+    if on_board {
+        return back::team(back::team_board_of(reader), cid);
+    }
+    team_reading::team(reader, cid)
+}
+
+fn print_team(reader: TeamReader, cid: i32, on_board: bool) {
+    let Team::Number(n) = team_of(reader, cid, on_board) else {
+        return;
+    };
+    print(texts::plain(b"team", &[cid, n]));
+}
+
 // The end of the range, which may be 2147483648.
 fn print_cids(end: i64) {
     if end == 2147483648 {
@@ -114,28 +131,49 @@ fn tick_of(reader: Reader) -> BoardTick {
     tick
 }
 
+// Clients 0 to 128.
+fn print_teams(reader: TeamReader, on_board: bool) {
+    for c in 0..129u32 {
+        print_team(reader, num::signed(c), on_board);
+    }
+}
+
 // Every lookup; of the clients outside 0 to 127, which have nothing, those at the ends.
-fn print_board(reader: Reader, on_board: bool) {
-    print_tick(tick_of(reader));
-    print_client(reader, -2147483648, on_board);
-    print_client(reader, -1, on_board);
-    print_clients(reader, on_board);
-    print_client(reader, 2147483647, on_board);
-    print_cids(queries::cids(reader));
+fn print_board(reader: TeamReader, on_board: bool) {
+    let plain = reader.reader;
+    print_tick(tick_of(plain));
+    print_client(plain, -2147483648, on_board);
+    print_client(plain, -1, on_board);
+    print_clients(plain, on_board);
+    print_client(plain, 2147483647, on_board);
+    print_team(reader, -2147483648, on_board);
+    print_team(reader, -1, on_board);
+    print_teams(reader, on_board);
+    print_team(reader, 2147483647, on_board);
+    print_cids(queries::cids(plain));
 }
 
 // A reader, its place in the body, and whether the body is read.
 struct Spot {
-    reader: Reader,
+    reader: TeamReader,
     at: usize,
     over: bool,
 }
 
+// The reader that a call left.
+fn left(read: TeamRead) -> TeamReader {
+    let plain = read.read;
+    let reader = plain.reader;
+    let teams = read.teams;
+    TeamReader { reader, teams }
+}
+
 // After an event the board's lookups, if they are asked for; at the end the last line and the reader's.
-fn tell(read: ReadAnswer, each: bool) {
-    let answer = read.answer;
-    let input = read.input;
-    let reader = read.reader;
+fn tell(read: TeamRead, each: bool) {
+    let plain = read.read;
+    let answer = plain.answer;
+    let input = plain.input;
+    let reader = left(read);
     if let Used::NoEvent = texts::used_in(answer) {
         print(texts::told(answer, input));
         print_board(reader, false);
@@ -147,9 +185,10 @@ fn tell(read: ReadAnswer, each: bool) {
 }
 
 // The spot past a call.
-fn past(at: usize, read: ReadAnswer, len: usize) -> Spot {
-    let answer = read.answer;
-    let reader = read.reader;
+fn past(at: usize, read: TeamRead, len: usize) -> Spot {
+    let plain = read.read;
+    let answer = plain.answer;
+    let reader = left(read);
     match texts::used_in(answer) {
         Used::Bytes(used) => Spot {
             reader,
@@ -168,14 +207,14 @@ fn past(at: usize, read: ReadAnswer, len: usize) -> Spot {
 fn call(spot: Spot, body: &[u8], each: bool) -> Spot {
     let reader = spot.reader;
     let at = spot.at;
-    let read = reader::read(reader, cases::window(body, at, body.len()), true);
+    let read = team_reading::read(reader, cases::window(body, at, body.len()), true);
     tell(read, each);
     past(at, read, body.len())
 }
 
 fn first_spot(version: Version) -> Spot {
     Spot {
-        reader: Reader::empty(version),
+        reader: TeamReader::empty(version),
         at: 0,
         over: false,
     }

@@ -22,6 +22,10 @@ use Rattle.state.specs.declared.Answer.the-variants as answers
 use Rattle.state.specs.declared.Outcome.{Outcome}
 use Rattle.calls.specs.Calls.{Seen, isPending}
 use Rattle.calls.specs.Along.{Halt, Run, stopped, before, calls}
+use Rattle.teams.specs.Teams.{teamReader, teamsAfter, formerTeam}
+use Rattle.teams.specs.declared.Team.{Team}
+use Rattle.teams.proofs.Joins.{slim-teams, slim-former}
+use Rattle.team_calls.specs.Lists.{teamSeen, teamsOver, withFormers}
 use Rattle.rows.specs.Rows.{flag, eventRow, rowOf, eventTens, tensOf, put, rowsFrom, tensFrom}
 use Rattle.many.specs.Many.{haltOf, ManyIs}
 use Rattle.rows.specs.steps.Stores.{EventPut}
@@ -34,43 +38,46 @@ use Rattle.many.proofs.Slims.{slim-row, slim-tens}
 use Rattle.many.proofs.OneCall.{readerOf, call-alike, goes-to}
 use Rattle.many.proofs.OneCall as one
 
--- ---- a run of which count events with used bytes are done, and rest is left
+-- ---- a run of which count events with used bytes are done, and rest is left; t₀ and t₁: the teams before the run and now
 
-pub record Behind (run rest : Run) (count used : ℕ) (rows₀ tens₀ rows₁ tens₁ : List ℤ) : Type 0 where
+pub record Behind (run rest : Run) (count used : ℕ) (t₀ rows₀ tens₀ t₁ rows₁ tens₁ : List ℤ) : Type 0 where
   pub halt : run .halt ≡ rest .halt
   pub events : length (run .seen) ≡ count + length (rest .seen)
   pub bytes : run .used ≡ used + rest .used
   pub reader : run .reader ≡ rest .reader
-  pub rows : rowsFrom 0 (run .seen) rows₀ ≡ rowsFrom count (rest .seen) rows₁
-  pub tens : tensFrom 0 (run .seen) tens₀ ≡ tensFrom count (rest .seen) tens₁
+  pub teams : teamsOver t₀ (run .seen) ≡ teamsOver t₁ (rest .seen)
+  pub rows : rowsFrom 0 (withFormers t₀ (run .seen)) rows₀ ≡ rowsFrom count (withFormers t₁ (rest .seen)) rows₁
+  pub tens : tensFrom 0 (withFormers t₀ (run .seen)) tens₀ ≡ tensFrom count (withFormers t₁ (rest .seen)) tens₁
 
-pub begun : (run : Run) (rows tens : List ℤ) → Behind run run 0 0 rows tens rows tens
-begun run rows tens = record { halt = refl; events = omega arith; bytes = omega arith; reader = refl; rows = refl; tens = refl }
+pub begun : (run : Run) (t rows tens : List ℤ) → Behind run run 0 0 t rows tens t rows tens
+begun run t rows tens = record { halt = refl; events = omega arith; bytes = omega arith; reader = refl; teams = refl; rows = refl; tens = refl }
 
-module _ {run : Run} {count used : ℕ} {rows₀ tens₀ rows₁ tens₁ : List ℤ} where
-  pub one-more : (x : Seen) (rest : Run) → Behind run (before x rest) count used rows₀ tens₀ rows₁ tens₁
-      → Behind run rest (count + 1) (used + x .used) rows₀ tens₀ (put rows₁ (8 * count) (rowOf x)) (put tens₁ (20 * count) (tensOf x))
-  unfolding rowsFrom tensFrom
+module _ {run : Run} {count used : ℕ} {t₀ rows₀ tens₀ t₁ rows₁ tens₁ : List ℤ} where
+  pub one-more : (x : Seen) (rest : Run) → Behind run (before x rest) count used t₀ rows₀ tens₀ t₁ rows₁ tens₁
+      → let y = teamSeen (formerTeam (x .event) t₁) x in
+      Behind run rest (count + 1) (used + x .used) t₀ rows₀ tens₀ (teamsAfter (x .event) t₁) (put rows₁ (8 * count) (rowOf y)) (put tens₁ (20 * count) (tensOf y))
+  unfolding rowsFrom tensFrom teamsOver withFormers
   one-more x rest b =
       record {
         halt = b .halt;
         events = omega (arith, b .events);
         bytes = omega (arith, b .bytes);
         reader = b .reader;
+        teams = b .teams;
         rows = rw add-one (b .rows);
         tens = rw add-one (b .tens);
       }
 
   pub ended : (stop : Stop) (h : Halt) (n u : ℕ) (r : Reader) → haltOf stop ≡ h → u ≡ used + n
-      → Behind run (stopped h n r) count used rows₀ tens₀ rows₁ tens₁
-      → ManyIs run rows₀ tens₀ (record { stop = stop; count = count; used = u; reader = r }) rows₁ tens₁
-  unfolding rowsFrom tensFrom
+      → Behind run (stopped h n r) count used t₀ rows₀ tens₀ t₁ rows₁ tens₁
+      → ManyIs run t₀ rows₀ tens₀ (record { stop = stop; count = count; used = u; reader = teamReader r t₁ }) rows₁ tens₁
+  unfolding rowsFrom tensFrom teamsOver withFormers
   ended stop h n u r e f b =
       record {
         halt = e ∙ sym (b .halt);
         count = omega (arith, b .events);
         used = f ∙ sym (b .bytes);
-        left = sym (b .reader);
+        left = λ i. teamReader (sym (b .reader) i) (sym (b .teams) i);
         rows = sym (b .rows);
         tens = sym (b .tens);
       }
@@ -89,15 +96,15 @@ module _ (s : Scalars) (m : Memory) (w : List ℕ) (last : Bool) (sound : Sound 
     abbrev seen : Seen
     seen = one.seen s m w last sound o m' e v n a
 
-    row-is : rowOf seen ≡ eventRow (eventIs v) (wrap32 (pos n)) (flag (isPending (s .pending)))
+    row-is : (team : Team) → rowOf (teamSeen team seen) ≡ eventRow (eventIs v) team (wrap32 (pos n)) (flag (isPending (s .pending)))
     unfolding rowOf
-    row-is =
-        sym (slim-row (given .event) _ _)
-        ∙ ap (λ (d : Event). eventRow d (wrap32 (pos n)) (flag (isPending (s .pending)))) (given .own)
+    row-is team =
+        sym (slim-row (given .event) team _ _)
+        ∙ ap (λ (d : Event). eventRow d team (wrap32 (pos n)) (flag (isPending (s .pending)))) (given .own)
 
-    tens-are : tensOf seen ≡ eventTens (eventIs v) (m' .input) (m' .former)
+    tens-are : (team : Team) → tensOf (teamSeen team seen) ≡ eventTens (eventIs v) (m' .input) (m' .former)
     unfolding tensOf
-    tens-are =
+    tens-are team =
         let t = readCall (readerOf s m) w last in
         ap (λ (x : Said Event). saidTens x (t .memory)) (sym (given .said))
         ∙ sym (alike .tens)
@@ -105,10 +112,18 @@ module _ (s : Scalars) (m : Memory) (w : List ℕ) (last : Bool) (sound : Sound 
         ∙ sym (slim-tens (given .event) (m' .input) (m' .former))
         ∙ ap (λ (d : Event). eventTens d (m' .input) (m' .former)) (given .own)
 
-    pub goes-on : {run : Run} {count used : ℕ} {rows₀ tens₀ rows₁ tens₁ : List ℤ} (k : ℕ) (rows₂ tens₂ : List ℤ)
-        → Room (count + 1) rows₁ tens₁ → Behind run (calls (suc k) (readerOf s m) w last) count used rows₀ tens₀ rows₁ tens₁
-        → EventPut (eventIs v) n (flag (isPending (s .pending))) count (m' .input) (m' .former) rows₁ tens₁ rows₂ tens₂
-        → Behind run (calls k (readerOf (o .scalars) m') (drop n w) last) (count + 1) (used + n) rows₀ tens₀ rows₂ tens₂
-    goes-on {count = count} {rows₁ = rows₁} {tens₁ = tens₁} k rows₂ tens₂ room b p =
+    teams-are : (t : List ℤ) → teamsAfter (seen .event) t ≡ teamsAfter (eventIs v) t
+    teams-are t = sym (slim-teams (given .event) t) ∙ ap (λ (d : Event). teamsAfter d t) (given .own)
+
+    former-is : (t : List ℤ) → formerTeam (seen .event) t ≡ formerTeam (eventIs v) t
+    former-is t = sym (slim-former (given .event) t) ∙ ap (λ (d : Event). formerTeam d t) (given .own)
+
+    pub goes-on : {run : Run} {count used : ℕ} {t₀ rows₀ tens₀ t₁ rows₁ tens₁ : List ℤ} (k : ℕ) (rows₂ tens₂ : List ℤ)
+        → Room (count + 1) rows₁ tens₁ → Behind run (calls (suc k) (readerOf s m) w last) count used t₀ rows₀ tens₀ t₁ rows₁ tens₁
+        → EventPut (eventIs v) (formerTeam (eventIs v) t₁) n (flag (isPending (s .pending))) count (m' .input) (m' .former) rows₁ tens₁ rows₂ tens₂
+        → Behind run (calls k (readerOf (o .scalars) m') (drop n w) last) (count + 1) (used + n) t₀ rows₀ tens₀ (teamsAfter (eventIs v) t₁) rows₂ tens₂
+    goes-on {count = count} {t₁ = t₁} {rows₁ = rows₁} {tens₁ = tens₁} k rows₂ tens₂ room b p =
         let f = placed (omega (arith, room .rows, room .tens)) p in
-        rw (f .rows, f .tens, ← row-is, ← tens-are) (one-more seen _ (rw (goes-to s m w last sound o m' e v n a k) at b))
+        let team = formerTeam (eventIs v) t₁ in
+        rw (f .rows, f .tens, ← row-is team, ← tens-are team, ← former-is t₁, ← teams-are t₁)
+        (one-more seen _ (rw (goes-to s m w last sound o m' e v n a k) at b))

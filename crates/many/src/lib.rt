@@ -12,6 +12,7 @@ use state::Answer;
 use state::Entries;
 use state::Reader;
 use state::Scalars;
+use teams::TeamReader;
 
 // Why the calls stopped: no room for another event, or the answer to the last call, which gave no event.
 pub enum Stop {
@@ -26,10 +27,10 @@ pub struct ManyAnswer {
     pub stop: Stop,
     pub count: usize,
     pub used: usize,
-    pub reader: Reader,
+    pub reader: TeamReader,
 }
 
-// The same where the entries are lent.
+// The same where entries and teams are lent.
 struct RowsRead {
     stop: Stop,
     count: usize,
@@ -48,7 +49,7 @@ fn stopped(stop: Stop, count: usize, used: usize, scalars: Scalars) -> RowsRead
     }
 }
 
-// Calls on lent entries while there is room and they give events. What input and former hold before is never seen.
+// Calls on lent entries and teams while there is room and they give events. What input and former hold before is never seen.
 fn read_rows(
     scalars: Scalars,
     marks: &mut [u8; 128],
@@ -56,6 +57,7 @@ fn read_rows(
     ys: &mut [i32; 128],
     held: &mut [u8; 128],
     inputs: &mut [i32; 1280],
+    teams: &mut [i32; 256],
     input: &mut [i32; 10],
     former: &mut [i32; 10],
     w: &[u8],
@@ -65,7 +67,7 @@ fn read_rows(
     room: usize,
 ) -> RowsRead
     requires { ⌜ Sound (readerWith scalars (entriesWith (now marks) (now xs) (now ys) (now held) (now inputs))) × Room room (now rows) (now tens) ⌝ }
-    ensures { λ r. ⌜ ManyIs (calls room (readerWith scalars (entriesWith (now (marks .entry)) (now (xs .entry)) (now (ys .entry)) (now (held .entry)) (now (inputs .entry)))) (now (w .entry)) last) (now (rows .entry)) (now (tens .entry)) (answerOf r (entriesWith (now (marks .exit)) (now (xs .exit)) (now (ys .exit)) (now (held .exit)) (now (inputs .exit)))) (now (rows .exit)) (now (tens .exit)) ⌝ }
+    ensures { λ r. ⌜ ManyIs (calls room (readerWith scalars (entriesWith (now (marks .entry)) (now (xs .entry)) (now (ys .entry)) (now (held .entry)) (now (inputs .entry)))) (now (w .entry)) last) (now (teams .entry)) (now (rows .entry)) (now (tens .entry)) (answerOf r (entriesWith (now (marks .exit)) (now (xs .exit)) (now (ys .exit)) (now (held .exit)) (now (inputs .exit))) (now (teams .exit))) (now (rows .exit)) (now (tens .exit)) ⌝ }
 {
     let mut s = scalars;
     let mut count: usize = 0;
@@ -89,7 +91,8 @@ fn read_rows(
         s = next;
         match answer {
             Answer::Event { event, used: n } => {
-                rows::put_event(event, n, pending, count, rows, tens, input, former);
+                let team = teams::apply(teams, event);
+                rows::put_event(event, team, n, pending, count, rows, tens, input, former);
                 used += n;
                 count += 1;
             }
@@ -105,6 +108,7 @@ fn read_rows(
 fn read_good(
     scalars: Scalars,
     entries: Entries,
+    given: [i32; 256],
     window: &[u8],
     last: bool,
     rows: &mut [i32],
@@ -112,13 +116,14 @@ fn read_good(
     room: usize,
 ) -> ManyAnswer
     requires { ⌜ (goodReader (readerWith scalars entries) ≡ true) × Room room (now rows) (now tens) ⌝ }
-    ensures { λ r. ⌜ ManyIs (calls room (readerWith scalars entries) (now (window .entry)) last) (now (rows .entry)) (now (tens .entry)) r (now (rows .exit)) (now (tens .exit)) ⌝ }
+    ensures { λ r. ⌜ ManyIs (calls room (readerWith scalars entries) (now (window .entry)) last) given (now (rows .entry)) (now (tens .entry)) r (now (rows .exit)) (now (tens .exit)) ⌝ }
 {
     let mut marks = entries.marks;
     let mut xs = entries.xs;
     let mut ys = entries.ys;
     let mut held = entries.held;
     let mut inputs = entries.inputs;
+    let mut teams = given;
     let mut input = [0i32; 10];
     let mut former = [0i32; 10];
     let r = read_rows(
@@ -128,6 +133,7 @@ fn read_good(
         &mut ys,
         &mut held,
         &mut inputs,
+        &mut teams,
         &mut input,
         &mut former,
         window,
@@ -143,11 +149,11 @@ fn read_good(
         held,
         inputs,
     };
-    answer_of(r, left)
+    answer_of(r, left, teams)
 }
 
-fn answer_of(r: RowsRead, entries: Entries) -> ManyAnswer
-    ensures { λ a. ⌜ a ≡ answerOf r entries ⌝ }
+fn answer_of(r: RowsRead, entries: Entries, teams: [i32; 256]) -> ManyAnswer
+    ensures { λ a. ⌜ a ≡ answerOf r entries teams ⌝ }
 {
     let stop = r.stop;
     let scalars = r.scalars;
@@ -155,11 +161,14 @@ fn answer_of(r: RowsRead, entries: Entries) -> ManyAnswer
         stop,
         count: r.count,
         used: r.used,
-        reader: Reader { scalars, entries },
+        reader: TeamReader {
+            reader: Reader { scalars, entries },
+            teams,
+        },
     }
 }
 
-fn unread(stop: Stop, reader: Reader) -> ManyAnswer
+fn unread(stop: Stop, reader: TeamReader) -> ManyAnswer
     ensures { λ r. ⌜ r ≡ notRead stop reader ⌝ }
 {
     ManyAnswer {
@@ -173,19 +182,24 @@ fn unread(stop: Stop, reader: Reader) -> ManyAnswer
 // Reads until there is no room for another event, the window runs out, the body finishes or a call is refused. Event i has its row of
 // eight numbers at 8 i of rows, and an input its ten numbers and the former ten at 20 i of tens. The state is tested once, before the room.
 pub fn read_many(
-    reader: Reader,
+    reader: TeamReader,
     window: &[u8],
     last: bool,
     rows: &mut [i32],
     tens: &mut [i32],
 ) -> ManyAnswer
-    ensures { λ r. ⌜ ManyIs (manyCalls (room (now (rows .entry)) (now (tens .entry))) reader (now (window .entry)) last) (now (rows .entry)) (now (tens .entry)) r (now (rows .exit)) (now (tens .exit)) ⌝ }
+    ensures { λ r. ⌜ ManyIs (manyCalls (room (now (rows .entry)) (now (tens .entry))) reader (now (window .entry)) last) (reader .teams) (now (rows .entry)) (now (tens .entry)) r (now (rows .exit)) (now (tens .exit)) ⌝ }
 {
-    let scalars = reader.scalars;
-    let entries = reader.entries;
+    let teams = reader.teams;
+    let plain = reader.reader;
+    let scalars = plain.scalars;
+    let entries = plain.entries;
     if !good::both(
-        good_reader::good_scalars(scalars),
-        good::good_entries(entries),
+        good::both(
+            good_reader::good_scalars(scalars),
+            good::good_entries(entries),
+        ),
+        teams::good_teams(&teams),
     ) {
         return unread(Stop::Refused(Refusal::BadState), reader);
     }
@@ -194,5 +208,5 @@ pub fn read_many(
         return unread(Stop::Refused(Refusal::Closed), reader);
     }
     let free = rows::room_for(rows.len(), tens.len());
-    read_good(scalars, entries, window, last, rows, tens, free)
+    read_good(scalars, entries, teams, window, last, rows, tens, free)
 }

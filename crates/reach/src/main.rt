@@ -14,7 +14,7 @@ use many::Stop;
 use packer::Part;
 use refusal::Refusal;
 use state::Pending;
-use state::Reader;
+use teams::TeamReader;
 use varint::Wrote;
 
 // One of the two files.
@@ -25,7 +25,7 @@ enum File {
 
 // What the first turn on a file begins with, and whether there is one.
 struct First {
-    reader: Reader,
+    reader: TeamReader,
     hand: Hand,
     goes: bool,
 }
@@ -39,7 +39,7 @@ struct Fed {
 // What the turns on a file leave: why the last one's calls stopped, whether that ended the reading, whether a read failed, and how many bytes are at
 // hand.
 struct Left {
-    reader: Reader,
+    reader: TeamReader,
     stop: Stop,
     over: bool,
     failed: bool,
@@ -48,7 +48,7 @@ struct Left {
 
 // The reader after a file, and whether all of the file was read.
 struct Body {
-    reader: Reader,
+    reader: TeamReader,
     whole: bool,
 }
 
@@ -263,7 +263,7 @@ fn number(b: u8) -> i32 {
 
 fn first_of(version: Version, hand: Hand, goes: bool) -> First {
     First {
-        reader: Reader::empty(version),
+        reader: TeamReader::empty(version),
         hand: feed::pass(hand, 1),
         goes,
     }
@@ -307,7 +307,7 @@ fn begin(file: File, fd: i32, buf: &mut [u8]) -> First {
     begun(file, fed, buf)
 }
 
-fn no_body(reader: Reader) -> Body {
+fn no_body(reader: TeamReader) -> Body {
     Body {
         reader,
         whole: false,
@@ -326,7 +326,7 @@ fn read_fd(file: File, fd: i32, buf: &mut [u8]) -> Body {
 fn read_file(file: File, buf: &mut [u8]) -> Body {
     let fd = open(file);
     if fd < 0 {
-        return no_body(Reader::empty(Version::V1));
+        return no_body(TeamReader::empty(Version::V1));
     }
     let body = read_fd(file, fd, buf);
     libc::close(fd);
@@ -343,17 +343,18 @@ fn print(bytes: &[u8], n: usize) {
     say(b"reach: a write failed\n");
 }
 
-fn reach(from: Reader, to: Reader) {
+fn reach(from: TeamReader, to: TeamReader) {
     let mut bytes = [0u8; 16384];
-    match reaching::reach(from, back::board_of(to), &mut bytes) {
+    match reaching::reach(from, back::team_board_of(to), &mut bytes) {
         Wrote::Past(n) => print(&bytes, n),
         Wrote::Refused(refusal) => say_last(Ending::Refused(refusal)),
     }
 }
 
 // A kind that is pending at TO's end.
-fn is_between(to: Reader) -> bool {
-    let scalars = to.scalars;
+fn is_between(to: TeamReader) -> bool {
+    let plain = to.reader;
+    let scalars = plain.scalars;
     let pending = scalars.pending;
     match pending {
         Pending::Is(_) => false,
@@ -361,7 +362,7 @@ fn is_between(to: Reader) -> bool {
     }
 }
 
-fn reach_board(from: Reader, to: Reader) {
+fn reach_board(from: TeamReader, to: TeamReader) {
     if is_between(to) {
         reach(from, to);
         return;

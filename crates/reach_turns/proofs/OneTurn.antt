@@ -6,7 +6,7 @@ use mathlib.Core.List.{List}
 use native.Mathlib.Omega.{arith}
 use lib.ListN.{length, take}
 use lib.IntN.{ℤ}
-use Rattle.state.specs.declared.Reader.{Reader}
+use Rattle.teams.specs.declared.TeamReader.{TeamReader}
 use Rattle.calls.specs.Along.{Halt, Run}
 use Rattle.rows.specs.Rows.{room}
 use Rattle.many.specs.Many.{manyCalls, haltOf, ManyIs}
@@ -21,9 +21,9 @@ abbrev turnBy : ManyAnswer → Bool → Bool → Turned
 turnBy a over wanted = record { reader = a .reader; used = a .used; stop = a .stop; over = over; wants = wanted }
 
 -- n is the end of the window, a what is read of it
-module _ (r : Reader) (bytes : List ℕ) (n : ℕ) (e : n ≡ min (length bytes) full) (rows tens : List ℤ) (rows-are : 4096 ≡ length rows)
+module _ (r : TeamReader) (bytes : List ℕ) (n : ℕ) (e : n ≡ min (length bytes) full) (rows tens : List ℤ) (rows-are : 4096 ≡ length rows)
     (tens-are : 10240 ≡ length tens) (a : ManyAnswer) (rows₁ tens₁ : List ℤ)
-    (m : ManyIs (manyCalls (room rows tens) r (take n bytes) false) rows tens a rows₁ tens₁)
+    (m : ManyIs (manyCalls (room rows tens) r (take n bytes) false) (r .teams) rows tens a rows₁ tens₁)
     (over : Bool) (o : over ≡ ends (isShort bytes) (haltOf (a .stop)) (a .count))
     (wanted : Bool) (w : wanted ≡ wants (isShort bytes) (haltOf (a .stop)))
   where
@@ -33,9 +33,9 @@ module _ (r : Reader) (bytes : List ℕ) (n : ℕ) (e : n ≡ min (length bytes)
         let some : 0 < 512 = omega arith in
         rw (k, e, take-least bytes full) (with-room 512 r (windowOf bytes) false some)
 
-    pub turned : TurnIs bytes (turnOn r bytes) (turnBy a over wanted)
+    pub turned : TurnIs bytes (turnOn r bytes) (r .teams) (turnBy a over wanted)
     turned =
-        let t = subst (λ (x : Run). ManyIs x rows tens a rows₁ tens₁) same m in
+        let t = subst (λ (x : Run). ManyIs x (r .teams) rows tens a rows₁ tens₁) same m in
         record {
           left = t .left;
           used = t .used;

@@ -4,14 +4,14 @@ ghost use Prim.Native.Nat.{min};
 ghost use lib.ListN.{length};
 ghost use Rattle.reach_turns.specs.Turns.{turnOn, TurnIs};
 use many::Stop;
-use state::Reader;
+use teams::TeamReader;
 
 const FULL: usize = 65536;
 
 // What a turn leaves: the reader and the bytes used; why its calls stopped; whether that ends the reading, and whether nothing can follow before
 // more bytes are at hand.
 pub struct Turned {
-    pub reader: Reader,
+    pub reader: TeamReader,
     pub used: usize,
     pub stop: Stop,
     pub over: bool,
@@ -42,8 +42,8 @@ fn ten_space() -> [i32; 10240]
 
 // Reading calls on the window at the front of the bytes, until 512 events came or one gives none. The bytes are those at hand from the reader's
 // place on. The flag is off, whether or not the input has ended.
-pub fn turn(reader: Reader, bytes: &[u8]) -> Turned
-    ensures { λ r. ⌜ TurnIs (now (bytes .entry)) (turnOn reader (now (bytes .entry))) r ⌝ }
+pub fn turn(reader: TeamReader, bytes: &[u8]) -> Turned
+    ensures { λ r. ⌜ TurnIs (now (bytes .entry)) (turnOn reader (now (bytes .entry))) (reader .teams) r ⌝ }
 {
     let short = bytes.len() < FULL;
     let end = least(bytes.len(), FULL);

@@ -1,11 +1,12 @@
 // Brings readers to wanted boards. Standard input holds cases one behind the other, each after its length in three bytes, the low one first. A
 // case has four parts, each after its length in the same way:
 //   - the room of the target and how many events are read for the reader and for the board, in four bytes each, the low one first
-//   - the reader: a version byte and a body, read with the flag off; or 00, a reader as alike::reader_in takes it, and the client that it
-//     remembers, 255 for none
+//   - the reader: a version byte and a body, read with the flag off; or 00, a reader as team_alike::team_reader_in takes it, and the client that
+//     it remembers, 255 for none
 //   - the board: that of such a reader; of the same reader, if nothing is there
 //   - what is changed on that board, each change after its length in a byte: what it is, a client, a number in four bytes. 0 to 9: that number of
-//     its inputs; 10: the mark of its position, 11: x, 12: y; 13: the mark of its inputs; 14: the tick; 15: outside a tick
+//     its inputs; 10: the mark of its position, 11: x, 12: y; 13: the mark of its inputs; 14: the tick; 15: outside a tick; 16: the mark of its
+//     team, 17: its number
 // A line for each: the bytes that are written in hex, `-` for none, and how many events they give; or the refusal. The call is made by value and on
 // lent arrays, with much room, with just enough and with a byte less. The bytes are read by the same reader, whole and byte by byte, unless it was
 // made by hand. Where something doesn't hold a line says so.
@@ -14,6 +15,7 @@ ghost use Prim.Native.Nat.{_≤_};
 ghost use lib.ListN.{length};
 use back::Board;
 use back::BoardTick;
+use back::TeamBoard;
 use kinds::Cid;
 use kinds::Version;
 use libc::STDOUT_FILENO;
@@ -22,6 +24,8 @@ use state::Entries;
 use state::Pending;
 use state::Reader;
 use state::Scalars;
+use team_reading::TeamRead;
+use teams::TeamReader;
 use varint::Wrote;
 
 // ---- lines
@@ -65,7 +69,7 @@ fn wide(s: &[u8]) -> u32 {
 // A reader, its place in a body and the end of the bytes at hand, the events that may still come, and whether reading is over; by finish or a
 // refusal, if it is closed.
 struct Spot {
-    reader: Reader,
+    reader: TeamReader,
     at: usize,
     end: usize,
     most: usize,
@@ -99,8 +103,15 @@ fn after(spot: Spot, answer: Answer, len: usize) -> Spot {
     next
 }
 
+fn reader_after(read: TeamRead) -> TeamReader {
+    let plain = read.read;
+    let reader = plain.reader;
+    let teams = read.teams;
+    TeamReader { reader, teams }
+}
+
 // The flag is off. The windows reach to the end of the bytes, or grow byte by byte.
-fn read_on(given: Reader, body: &[u8], end: usize, most: usize) -> Spot {
+fn read_on(given: TeamReader, body: &[u8], end: usize, most: usize) -> Spot {
     let mut spot = Spot {
         reader: given,
         at: 0,
@@ -114,11 +125,11 @@ fn read_on(given: Reader, body: &[u8], end: usize, most: usize) -> Spot {
             return spot;
         }
         let reader = spot.reader;
-        let read = reader::read(reader, cases::window(body, spot.at, spot.end), false);
-        let answer = read.answer;
-        let next = read.reader;
+        let read = team_reading::read(reader, cases::window(body, spot.at, spot.end), false);
+        let plain = read.read;
+        let answer = plain.answer;
         spot = after(spot, answer, body.len());
-        spot.reader = next;
+        spot.reader = reader_after(read);
     }
     spot
 }
@@ -150,16 +161,28 @@ fn remembering(reader: Reader, cid: i32) -> Reader {
     Reader { scalars, entries }
 }
 
-fn reader_of(input: &[u8], most: usize) -> Reader {
+fn reader_by_hand(given: &[u8]) -> TeamReader {
+    let made = team_alike::team_reader_in(given);
+    let plain = made.reader;
+    let teams = made.teams;
+    TeamReader {
+        reader: remembering(plain, cases::first(cases::window(given, 17, given.len()))),
+        teams,
+    }
+}
+
+fn reader_of(input: &[u8], most: usize) -> TeamReader {
     let rest = cases::window(input, 1, input.len());
     let version = cases::byte(input, 0);
     if version == 0 {
-        return remembering(
-            alike::reader_in(rest),
-            cases::first(cases::window(rest, 14, rest.len())),
-        );
+        return reader_by_hand(rest);
     }
-    let spot = read_on(Reader::empty(version_of(version)), rest, rest.len(), most);
+    let spot = read_on(
+        TeamReader::empty(version_of(version)),
+        rest,
+        rest.len(),
+        most,
+    );
     let reader = spot.reader;
     reader
 }
@@ -183,6 +206,20 @@ fn with_entry(entries: Entries, what: usize, c: usize, n: i32, mark: u8) -> Entr
     made
 }
 
+fn with_team(teams: [i32; 256], what: usize, c: usize, n: i32) -> [i32; 256] {
+    if 128 <= c {
+        return teams;
+    }
+    let mut made = teams;
+    if what == 16 {
+        made[2 * c] = n;
+    }
+    if what == 17 {
+        made[2 * c + 1] = n;
+    }
+    made
+}
+
 fn with_tick(tick: BoardTick, what: usize, n: i32) -> BoardTick {
     match what {
         14 => BoardTick::In(n),
@@ -191,19 +228,24 @@ fn with_tick(tick: BoardTick, what: usize, n: i32) -> BoardTick {
     }
 }
 
-fn changed(board: Board, change: &[u8]) -> Board {
-    let tick = board.tick;
-    let entries = board.entries;
+fn changed(board: TeamBoard, change: &[u8]) -> TeamBoard {
+    let plain = board.board;
+    let teams = board.teams;
+    let tick = plain.tick;
+    let entries = plain.entries;
     let what = cases::size(cases::byte(change, 0));
     let c = cases::size(cases::byte(change, 1));
     let n = num::signed(wide(cases::window(change, 2, 6)));
-    Board {
-        tick: with_tick(tick, what, n),
-        entries: with_entry(entries, what, c, n, cases::byte(change, 2)),
+    TeamBoard {
+        board: Board {
+            tick: with_tick(tick, what, n),
+            entries: with_entry(entries, what, c, n, cases::byte(change, 2)),
+        },
+        teams: with_team(teams, what, c, n),
     }
 }
 
-fn change_all(board: Board, changes: &[u8]) -> Board {
+fn change_all(board: TeamBoard, changes: &[u8]) -> TeamBoard {
     let mut made = board;
     for k in 0..cases::count(changes, 1) {
         made = changed(made, cases::nth(changes, 1, k));
@@ -233,11 +275,15 @@ fn room_of(n: usize) -> usize
     if n < 16640 { n } else { 16640 }
 }
 
-fn on_lent(reader: Reader, board: Board, out: &mut [u8]) -> Wrote {
-    let scalars = reader.scalars;
-    let e = reader.entries;
-    let tick = board.tick;
-    let w = board.entries;
+fn on_lent(reader: TeamReader, board: TeamBoard, out: &mut [u8]) -> Wrote {
+    let plain = reader.reader;
+    let teams = reader.teams;
+    let scalars = plain.scalars;
+    let e = plain.entries;
+    let wanted = board.board;
+    let wteams = board.teams;
+    let tick = wanted.tick;
+    let w = wanted.entries;
     reaching::reach_lent(
         scalars,
         &e.marks,
@@ -245,12 +291,14 @@ fn on_lent(reader: Reader, board: Board, out: &mut [u8]) -> Wrote {
         &e.ys,
         &e.held,
         &e.inputs,
+        &teams,
         tick,
         &w.marks,
         &w.xs,
         &w.ys,
         &w.held,
         &w.inputs,
+        &wteams,
         out,
     )
 }
@@ -278,7 +326,7 @@ fn same_target(a: Target, b: Target) -> bool {
     check::same(&a.bytes, &b.bytes) & (code(one) == code(other))
 }
 
-fn reach(reader: Reader, board: Board, room: usize) -> Target {
+fn reach(reader: TeamReader, board: TeamBoard, room: usize) -> Target {
     let mut bytes = blank();
     let mut others = blank();
     let end = room_of(room);
@@ -305,7 +353,7 @@ fn untouched(target: Target, at: usize) -> bool {
 
 // With much room, with just enough and with a byte less: the rest of a target stays, and all of it in a refusal; a byte less is refused 9, and
 // any other refusal comes without room too.
-fn hold(reader: Reader, board: Board) {
+fn hold(reader: TeamReader, board: TeamBoard) {
     let target = reach(reader, board, 16640);
     let wrote = target.wrote;
     let n = size(wrote);
@@ -332,17 +380,18 @@ fn is_pending(pending: Pending) -> bool {
 }
 
 // Whether all n bytes are read, nothing is pending and the board is there.
-fn arrived(spot: Spot, n: usize, board: Board) -> bool {
+fn arrived(spot: Spot, n: usize, board: TeamBoard) -> bool {
     let reader = spot.reader;
-    let s = reader.scalars;
+    let plain = reader.reader;
+    let s = plain.scalars;
     let pending = s.pending;
     (spot.at == n)
         & !spot.closed
         & !is_pending(pending)
-        & alike::same_board(board, back::board_of(reader))
+        & team_alike::same_team_board(board, back::team_board_of(reader))
 }
 
-fn read_back(reader: Reader, board: Board, bytes: &[u8]) {
+fn read_back(reader: TeamReader, board: TeamBoard, bytes: &[u8]) {
     let n = bytes.len();
     let whole = read_on(reader, bytes, n, 400000);
     let slow = read_on(reader, bytes, 0, 400000);
@@ -357,7 +406,7 @@ fn read_back(reader: Reader, board: Board, bytes: &[u8]) {
 
 // ---- cases
 
-fn print_written(reader: Reader, board: Board, bytes: &[u8], by_hand: bool) {
+fn print_written(reader: TeamReader, board: TeamBoard, bytes: &[u8], by_hand: bool) {
     print_bytes(bytes);
     say_unless(0 < bytes.len(), b"-");
     if !by_hand {
@@ -366,7 +415,7 @@ fn print_written(reader: Reader, board: Board, bytes: &[u8], by_hand: bool) {
     say(b"\n");
 }
 
-fn print_target(reader: Reader, board: Board, target: Target, by_hand: bool) {
+fn print_target(reader: TeamReader, board: TeamBoard, target: Target, by_hand: bool) {
     let bytes = target.bytes;
     let wrote = target.wrote;
     match wrote {
@@ -376,11 +425,11 @@ fn print_target(reader: Reader, board: Board, target: Target, by_hand: bool) {
 }
 
 // The board that a part gives; of this reader, if it is empty.
-fn board_in(input: &[u8], most: usize, reader: Reader) -> Board {
+fn board_in(input: &[u8], most: usize, reader: TeamReader) -> TeamBoard {
     if input.len() == 0 {
-        return back::board_of(reader);
+        return back::team_board_of(reader);
     }
-    back::board_of(reader_of(input, most))
+    back::team_board_of(reader_of(input, most))
 }
 
 fn run_case(case: &[u8]) {

@@ -26,7 +26,7 @@ use Rattle.written.specs.Unwritable.{Writes}
 use Rattle.record_writer.specs.steps.Puts.{PutsBytes}
 use Rattle.choice.specs.Chosen.{Rec, joined, isSome, bytesOf}
 use Rattle.choice.proofs.Lengths.{bytes-append, joined-le, some-bytes}
-use Rattle.choosing.specs.Choice.{choiceIs, Chooses}
+use Rattle.choosing.specs.Choice.{choiceIs, ChoosesIn}
 use Rattle.choosing.specs.declared.Choice.{Choice}
 use Rattle.reaching.specs.steps.Puts.{Ready}
 
@@ -46,14 +46,14 @@ same-place m n e = cc
 no-refusal : {A : Type 0} (r : Refusal) (n : ℕ) → refusing r ≡ gives n 0 → A
 no-refusal r n e = let z : _≡_ {A = ℕ} 0 1 = cc in absurd (omega arith)
 
-module _ (c : Choice) (xs : List ℕ) (at : ℕ) (h : Ready c xs at) where
+module _ (v : Version) (c : Choice) (xs : List ℕ) (at : ℕ) (h : Ready v c xs at) where
   pub put-none : c .there ≡ false → PutsBytes xs at (bytesOf (choiceIs c)) at xs
   put-none e =
       let b : bytesOf (choiceIs c) ≡ [] = ap (λ (t : Bool). bytesOf (cond t (meaning [] (recordOf (c .value)) ∷ []) [])) e ∙ none-bytes in
       let r : at + length (bytesOf (choiceIs c)) ≤ length xs = h .room in
       rw b (omega arith, nothing-put xs at (omega arith))
 
-  module _ (e : c .there ≡ true) (v : Version) (w : Wrote) (ys : List ℕ) (p : Writes v [] (c .value) xs at w ys) where
+  module _ (e : c .there ≡ true) (w : Wrote) (ys : List ℕ) (p : Writes v [] (c .value) xs at w ys) where
     bytes-are : bytesOf (choiceIs c) ≡ recordBytes [] (c .value)
     unfolding recordBytes
     bytes-are =
@@ -64,21 +64,22 @@ module _ (c : Choice) (xs : List ℕ) (at : ℕ) (h : Ready c xs at) where
 
     answered : wroteSaid w ≡ gives (at + length (recordBytes [] (c .value))) 0
     unfolding writing
-    answered = p .answer ∙ rw (h .writable v, le-leb (at + length (recordBytes [] (c .value))) (length xs) fits)
+    answered = p .answer ∙ rw (h .writable, le-leb (at + length (recordBytes [] (c .value))) (length xs) fits)
 
     pub put-past : (next : ℕ) → w ≡ Past next → PutsBytes xs at (bytesOf (choiceIs c)) next ys
     put-past next ew =
         rw bytes-are (
           same-place next (at + length (recordBytes [] (c .value))) (sym (ap wroteSaid ew) ∙ answered),
-          p .target ∙ rw (h .writable v),
+          p .target ∙ rw (h .writable),
         )
 
     pub never-refused : {A : Type 0} (r : Refusal) → w ≡ Refused r → A
     never-refused r ew = no-refusal r (at + length (recordBytes [] (c .value))) (sym (ap wroteSaid ew) ∙ answered)
 
 -- a choice of at most k bytes
-pub ready-at : (cs : List Rec) (k : ℕ) → length (bytesOf cs) ≤ k → (c : Choice) → Chooses cs c → (xs : List ℕ) (at : ℕ) → at + k ≤ length xs → Ready c xs at
-ready-at cs k f c h xs at room = record { writable = h .writable; room = rw (h .is) (omega arith) }
+pub ready-at : (v : Version) (cs : List Rec) (k : ℕ) → length (bytesOf cs) ≤ k → (c : Choice) → ChoosesIn v cs c → (xs : List ℕ) (at : ℕ)
+    → at + k ≤ length xs → Ready v c xs at
+ready-at v cs k f c h xs at room = record { writable = h .writable; room = rw (h .is) (omega arith) }
 
 -- ---- records ds behind others, cs, of at most l and k bytes
 
@@ -110,14 +111,14 @@ module _ (f : ℕ → List Rec) (n k : ℕ) (small : (i : ℕ) → i < n → len
   pub all-fit : (i : ℕ) → i ≤ n → at + length (bytesOf (joined i f)) ≤ length xs
   all-fit i h = omega (arith, front-le i h, mul-le-mul-right {m = i} {n = n} k h)
 
-  module _ (i : ℕ) (under : i < n) (next : ℕ) (ys : List ℕ) (p : PutsBytes xs at (bytesOf (joined i f)) next ys) (c : Choice)
-      (h : Chooses (f i) c) where
+  module _ (i : ℕ) (under : i < n) (next : ℕ) (ys : List ℕ) (p : PutsBytes xs at (bytesOf (joined i f)) next ys) (v : Version)
+      (c : Choice) (h : ChoosesIn v (f i) c) where
     turn-room : at + (i * k + k) ≤ length xs
     turn-room = omega (arith, mul-le-mul-right {m = suc i} {n = n} k (omega arith), suc-mul i k)
 
-    pub turn-ready : Ready c ys next
+    pub turn-ready : Ready v c ys next
     turn-ready =
-        ready-at (f i) k (small i under) c h ys next
+        ready-at v (f i) k (small i under) c h ys next
         (second-room (joined i f) (f i) (i * k) k (front-le i (omega arith)) (small i under) xs at turn-room next ys p)
 
     pub turn-put : (m : ℕ) (zs : List ℕ) → PutsBytes ys next (bytesOf (choiceIs c)) m zs → PutsBytes xs at (bytesOf (joined (i + 1) f)) m zs

@@ -1,51 +1,30 @@
 // From a reader and a wanted board to the bytes of records that bring the reader there.
 ghost use mathlib.Core.Path.{_≡_};
-ghost use mathlib.Core.Bool.{true, cond};
+ghost use mathlib.Core.Bool.{true};
 ghost use mathlib.Core.List.{List};
 ghost use Prim.Native.Nat.{ℕ, _+_, _*_, _<_, _≤_};
 ghost use lib.ListN.{length};
-ghost use lib.IntN.{ℤ};
-ghost use Rattle.state.specs.State.{entriesWith, readerWith};
-ghost use Rattle.state.specs.Reading.{atOrBelow};
+ghost use lib.IntN.{ℤ, pos};
+ghost use Rattle.kinds.specs.declared.Version.{Version};
 ghost use Rattle.record_writer.specs.steps.Puts.{PutsBytes};
-ghost use Rattle.calls.specs.Calls.{isPending};
+ghost use Rattle.state.specs.State.{entriesWith, readerWith};
+ghost use Rattle.teams.specs.Teams.{teamOf, teamReader};
 ghost use Rattle.back.specs.Board.{board};
-ghost use Rattle.choice.specs.Chosen.{playerOf, heldOf, playerFor, inputFor, joined, changes, chosen, bytesOf};
-ghost use Rattle.choice.specs.Reaching.{losesInput, differsBehind, cantReach, mayReach, ReachIs};
-ghost use Rattle.choosing.specs.Choice.{choiceIs, Chooses};
-ghost use Rattle.reaching.specs.steps.Puts.{AllowedIs, Ready};
-use back::Board;
+ghost use Rattle.back.specs.TeamBoard.{teamBoard};
+ghost use Rattle.choice.specs.Chosen.{heldOf, playerFor, inputFor, teamFor, joined, changes, allChanges, chosen, bytesOf};
+ghost use Rattle.choice.specs.Reaching.{ReachIs};
+ghost use Rattle.choosing.specs.Choice.{choiceIs, ChoosesIn, Chooses, teamIn};
+ghost use Rattle.reaching.specs.steps.Puts.{Ready, TeamsIn};
 use back::BoardTick;
+use back::TeamBoard;
 use choice::Held;
-use choice::Player;
 use choosing::Choice;
-use kinds::Cid;
 use kinds::Version;
 use packer::Part;
-use refusal::Refusal;
-use state::Pending;
-use state::Reader;
+use reachable::Allowed;
 use state::Scalars;
+use teams::TeamReader;
 use varint::Wrote;
-
-// The tick to be reached, or the refusal.
-enum Allowed {
-    To(i32),
-    No(Refusal),
-}
-
-// ---- the entries of a client
-
-fn player_at<'a>(marks: &'a [u8; 128], xs: &'a [i32; 128], ys: &'a [i32; 128], c: usize) -> Player
-    requires { ⌜ c < 128 ⌝ }
-    ensures { λ r. ⌜ ((held : List ℕ) (inputs : List ℤ) → r ≡ playerOf (entriesWith (now (marks .entry)) (now (xs .entry)) (now (ys .entry)) held inputs) c) ⌝ }
-{
-    Player {
-        mark: marks[c],
-        x: xs[c],
-        y: ys[c],
-    }
-}
 
 fn held_at<'a>(held: &'a [u8; 128], inputs: &'a [i32; 1280], c: usize) -> Held
     requires { ⌜ c < 128 ⌝ }
@@ -57,167 +36,11 @@ fn held_at<'a>(held: &'a [u8; 128], inputs: &'a [i32; 1280], c: usize) -> Held
     }
 }
 
-// ---- what can't be done
-
-fn if_marked(mark: bool, then: bool) -> bool
-    ensures { λ r. ⌜ r ≡ cond mark then true ⌝ }
-{
-    !mark | then
-}
-
-// Whether a client has inputs now and none in the wanted board.
-fn loses_input<'a>(held: &'a [u8; 128], wanted: &'a [u8; 128]) -> bool
-    ensures { λ r. ⌜
-        ((marks : List ℕ) (xs ys inputs : List ℤ) (wmarks : List ℕ) (wxs wys winputs : List ℤ)
-        → r ≡ losesInput (entriesWith marks xs ys (now (held .entry)) inputs) (entriesWith wmarks wxs wys (now (wanted .entry)) winputs))
-        ⌝ }
-{
-    let mut all = true;
-    let mut c: usize = 0;
-    while c < 128 {
-        let now = held[c] == 1;
-        let then = wanted[c] == 1;
-        all = good::both(if_marked(now, then), all);
-        c += 1;
-    }
-    !all
-}
-
-fn at_or_below(c: i32, p: Cid) -> bool
-    ensures { λ r. ⌜ r ≡ atOrBelow c p ⌝ }
-{
-    match p {
-        Cid::Of(q) => !(q < c),
-        Cid::NoCid => false,
-    }
-}
-
-// Whether a player entry differs at or below the remembered client.
-fn differs_behind<'a>(
-    remembered: Cid,
-    marks: &'a [u8; 128],
-    xs: &'a [i32; 128],
-    ys: &'a [i32; 128],
-    wmarks: &'a [u8; 128],
-    wxs: &'a [i32; 128],
-    wys: &'a [i32; 128],
-) -> bool
-    ensures { λ r. ⌜
-        ((held : List ℕ) (inputs : List ℤ) (wheld : List ℕ) (winputs : List ℤ)
-        → r ≡ differsBehind remembered (entriesWith (now (marks .entry)) (now (xs .entry)) (now (ys .entry)) held inputs)
-        (entriesWith (now (wmarks .entry)) (now (wxs .entry)) (now (wys .entry)) wheld winputs))
-        ⌝ }
-{
-    let mut all = true;
-    let mut c: usize = 0;
-    while c < 128 {
-        let same = choosing::same_player(
-            player_at(marks, xs, ys, c),
-            player_at(wmarks, wxs, wys, c),
-        );
-        all = good::both(if_marked(at_or_below(c as i32, remembered), same), all);
-        c += 1;
-    }
-    !all
-}
-
-// The three reasons for which no records bring the reader to tick u with the wanted entries.
-fn cant_reach<'a>(
-    s: Scalars,
-    marks: &'a [u8; 128],
-    xs: &'a [i32; 128],
-    ys: &'a [i32; 128],
-    held: &'a [u8; 128],
-    u: i32,
-    wmarks: &'a [u8; 128],
-    wxs: &'a [i32; 128],
-    wys: &'a [i32; 128],
-    wheld: &'a [u8; 128],
-) -> bool
-    ensures { λ r. ⌜
-        ((inputs winputs : List ℤ)
-        → r ≡ cantReach s (entriesWith (now (marks .entry)) (now (xs .entry)) (now (ys .entry)) (now (held .entry)) inputs) u
-        (entriesWith (now (wmarks .entry)) (now (wxs .entry)) (now (wys .entry)) (now (wheld .entry)) winputs))
-        ⌝ }
-{
-    let tick = s.tick;
-    if u < tick {
-        return true;
-    }
-    if loses_input(held, wheld) {
-        return true;
-    }
-    if !good::both(s.inside, compare::same_number(u, tick)) {
-        return false;
-    }
-    let remembered = s.remembered;
-    differs_behind(remembered, marks, xs, ys, wmarks, wxs, wys)
-}
-
-fn is_pending(pending: Pending) -> bool
-    ensures { λ r. ⌜ r ≡ isPending pending ⌝ }
-{
-    match pending {
-        Pending::Is(_) => true,
-        Pending::NoKind => false,
-    }
-}
-
-// 17 (reader, board), 18, 22, 23.
-fn may_reach<'a>(
-    s: Scalars,
-    marks: &'a [u8; 128],
-    xs: &'a [i32; 128],
-    ys: &'a [i32; 128],
-    held: &'a [u8; 128],
-    inputs: &'a [i32; 1280],
-    tick: BoardTick,
-    wmarks: &'a [u8; 128],
-    wxs: &'a [i32; 128],
-    wys: &'a [i32; 128],
-    wheld: &'a [u8; 128],
-    winputs: &'a [i32; 1280],
-) -> Allowed
-    ensures { λ r. ⌜
-        AllowedIs tick r (mayReach (readerWith s (entriesWith (now (marks .entry)) (now (xs .entry)) (now (ys .entry)) (now (held .entry)) (now (inputs .entry))))
-        (board tick (entriesWith (now (wmarks .entry)) (now (wxs .entry)) (now (wys .entry)) (now (wheld .entry)) (now (winputs .entry)))))
-        ⌝ }
-{
-    let standing = s.standing;
-    let closed = standing.is_closed();
-    let pending = s.pending;
-    let mid = is_pending(pending);
-    let good_board = good::both(
-        stepping::good_tick(tick),
-        good::good_lent(wmarks, wxs, wys, wheld, winputs),
-    );
-    let good = good::both(
-        good_reader::good_state(s, marks, xs, ys, held, inputs),
-        good_board,
-    );
-    if !good {
-        return Allowed::No(Refusal::BadState);
-    }
-    if closed {
-        return Allowed::No(Refusal::Closed);
-    }
-    if mid {
-        return Allowed::No(Refusal::MidRecord);
-    }
-    let BoardTick::In(u) = tick else {
-        return Allowed::No(Refusal::Unreachable);
-    };
-    if cant_reach(s, marks, xs, ys, held, u, wmarks, wxs, wys, wheld) {
-        return Allowed::No(Refusal::Unreachable);
-    }
-    Allowed::To(u)
-}
-
 // ---- the chosen records, one behind the other
 
 // A record that can be written, if there is one, into memory that has room: the place past it.
 fn put(version: Version, choice: Choice, out: &mut [u8], at: usize) -> usize
-    requires { ⌜ Ready choice (now out) at ⌝ }
+    requires { ⌜ Ready version choice (now out) at ⌝ }
     ensures { λ r. ⌜ PutsBytes (now (out .entry)) at (bytesOf (choiceIs choice)) r (now (out .exit)) ⌝ }
 {
     if !choice.there {
@@ -249,8 +72,8 @@ fn player_choice<'a>(
 {
     choosing::player_step(
         c as u8,
-        player_at(marks, xs, ys, c),
-        player_at(wmarks, wxs, wys, c),
+        reachable::player_at(marks, xs, ys, c),
+        reachable::player_at(wmarks, wxs, wys, c),
     )
 }
 
@@ -273,6 +96,21 @@ fn input_choice<'a>(
         c as u8,
         held_at(held, inputs, c),
         held_at(wheld, winputs, c),
+    )
+}
+
+// The PlayerTeam of a client, from its team to the wanted one.
+fn team_choice<'a>(teams: &'a [i32; 256], wteams: &'a [i32; 256], c: usize) -> Choice
+    requires { ⌜ c < 128 ⌝ }
+    ensures { λ r. ⌜
+        ((v : Version) → teamIn v (teamOf (now (wteams .entry)) (pos c)) ≡ true
+        → ChoosesIn v (teamFor (now (teams .entry)) (now (wteams .entry)) c) r)
+        ⌝ }
+{
+    choosing::team_step(
+        c as u8,
+        teams::team_of(teams, c as i32),
+        teams::team_of(wteams, c as i32),
     )
 }
 
@@ -336,8 +174,31 @@ fn put_inputs<'a>(
     next
 }
 
+// The teams, the lowest client first.
+fn put_teams<'a>(
+    version: Version,
+    teams: &'a [i32; 256],
+    wteams: &'a [i32; 256],
+    out: &mut [u8],
+    at: usize,
+) -> usize
+    requires { ⌜ (at + 128 * 25 ≤ length (now out)) × TeamsIn version (now wteams) ⌝ }
+    ensures { λ r. ⌜
+        PutsBytes (now (out .entry)) at (bytesOf (joined 128 (teamFor (now (teams .entry)) (now (wteams .entry))))) r (now (out .exit))
+        ⌝ }
+{
+    let mut next = at;
+    let mut c: usize = 0;
+    while c < 128 {
+        let choice = team_choice(teams, wteams, c);
+        next = put(version, choice, out, next);
+        c += 1;
+    }
+    next
+}
+
 // The records that change entries: players, then inputs.
-fn put_changes<'a>(
+fn put_entries<'a>(
     version: Version,
     marks: &'a [u8; 128],
     xs: &'a [i32; 128],
@@ -364,6 +225,50 @@ fn put_changes<'a>(
     put_inputs(version, held, inputs, wheld, winputs, out, next)
 }
 
+// All the records that change something: entries, then teams.
+fn put_changes<'a>(
+    version: Version,
+    marks: &'a [u8; 128],
+    xs: &'a [i32; 128],
+    ys: &'a [i32; 128],
+    held: &'a [u8; 128],
+    inputs: &'a [i32; 1280],
+    teams: &'a [i32; 256],
+    wmarks: &'a [u8; 128],
+    wxs: &'a [i32; 128],
+    wys: &'a [i32; 128],
+    wheld: &'a [u8; 128],
+    winputs: &'a [i32; 1280],
+    wteams: &'a [i32; 256],
+    out: &mut [u8],
+    at: usize,
+) -> usize
+    requires { ⌜ (at + 128 * 15 + 128 * 60 + 128 * 25 ≤ length (now out)) × TeamsIn version (now wteams) ⌝ }
+    ensures { λ r. ⌜
+        PutsBytes (now (out .entry)) at
+        (bytesOf (allChanges (entriesWith (now (marks .entry)) (now (xs .entry)) (now (ys .entry)) (now (held .entry)) (now (inputs .entry))) (now (teams .entry))
+        (entriesWith (now (wmarks .entry)) (now (wxs .entry)) (now (wys .entry)) (now (wheld .entry)) (now (winputs .entry))) (now (wteams .entry))))
+        r (now (out .exit))
+        ⌝ }
+{
+    let next = put_entries(
+        version,
+        marks,
+        xs,
+        ys,
+        held,
+        inputs,
+        wmarks,
+        wxs,
+        wys,
+        wheld,
+        winputs,
+        out,
+        at,
+    );
+    put_teams(version, teams, wteams, out, next)
+}
+
 // All the chosen records, from the front of the memory on: how many bytes they are.
 fn put_all<'a>(
     s: Scalars,
@@ -372,19 +277,21 @@ fn put_all<'a>(
     ys: &'a [i32; 128],
     held: &'a [u8; 128],
     inputs: &'a [i32; 1280],
+    teams: &'a [i32; 256],
     u: i32,
     wmarks: &'a [u8; 128],
     wxs: &'a [i32; 128],
     wys: &'a [i32; 128],
     wheld: &'a [u8; 128],
     winputs: &'a [i32; 1280],
+    wteams: &'a [i32; 256],
     out: &mut [u8],
 ) -> usize
-    requires { ⌜ 16384 ≤ length (now out) ⌝ }
+    requires { ⌜ (16384 ≤ length (now out)) × TeamsIn (s .version) (now wteams) ⌝ }
     ensures { λ r. ⌜
         PutsBytes (now (out .entry)) 0
-        (bytesOf (chosen s (entriesWith (now (marks .entry)) (now (xs .entry)) (now (ys .entry)) (now (held .entry)) (now (inputs .entry))) u
-        (entriesWith (now (wmarks .entry)) (now (wxs .entry)) (now (wys .entry)) (now (wheld .entry)) (now (winputs .entry)))))
+        (bytesOf (chosen s (entriesWith (now (marks .entry)) (now (xs .entry)) (now (ys .entry)) (now (held .entry)) (now (inputs .entry))) (now (teams .entry)) u
+        (entriesWith (now (wmarks .entry)) (now (wxs .entry)) (now (wys .entry)) (now (wheld .entry)) (now (winputs .entry))) (now (wteams .entry))))
         r (now (out .exit))
         ⌝ }
 {
@@ -398,11 +305,13 @@ fn put_all<'a>(
         ys,
         held,
         inputs,
+        teams,
         wmarks,
         wxs,
         wys,
         wheld,
         winputs,
+        wteams,
         out,
         start,
     );
@@ -429,33 +338,38 @@ pub fn reach_lent<'a>(
     ys: &'a [i32; 128],
     held: &'a [u8; 128],
     inputs: &'a [i32; 1280],
+    teams: &'a [i32; 256],
     tick: BoardTick,
     wmarks: &'a [u8; 128],
     wxs: &'a [i32; 128],
     wys: &'a [i32; 128],
     wheld: &'a [u8; 128],
     winputs: &'a [i32; 1280],
+    wteams: &'a [i32; 256],
     out: &mut [u8],
 ) -> Wrote
     ensures { λ r. ⌜
-        ReachIs (readerWith s (entriesWith (now (marks .entry)) (now (xs .entry)) (now (ys .entry)) (now (held .entry)) (now (inputs .entry))))
-        (board tick (entriesWith (now (wmarks .entry)) (now (wxs .entry)) (now (wys .entry)) (now (wheld .entry)) (now (winputs .entry))))
+        ReachIs
+        (teamReader (readerWith s (entriesWith (now (marks .entry)) (now (xs .entry)) (now (ys .entry)) (now (held .entry)) (now (inputs .entry)))) (now (teams .entry)))
+        (teamBoard (board tick (entriesWith (now (wmarks .entry)) (now (wxs .entry)) (now (wys .entry)) (now (wheld .entry)) (now (winputs .entry)))) (now (wteams .entry)))
         (now (out .entry)) r (now (out .exit))
         ⌝ }
 {
-    let allowed = may_reach(
+    let allowed = reachable::may_reach(
         s,
         marks,
         xs,
         ys,
         held,
         inputs,
+        teams,
         tick,
         wmarks,
         wxs,
         wys,
         wheld,
         winputs,
+        wteams,
     );
     match allowed {
         Allowed::No(why) => Wrote::Refused(why),
@@ -468,12 +382,14 @@ pub fn reach_lent<'a>(
                 ys,
                 held,
                 inputs,
+                teams,
                 u,
                 wmarks,
                 wxs,
                 wys,
                 wheld,
                 winputs,
+                wteams,
                 &mut bytes,
             );
             text_writer::write_raw(packer::show(&bytes, Part { at: 0, len: n }), out, 0)
@@ -482,13 +398,17 @@ pub fn reach_lent<'a>(
 }
 
 // The same for a reader and a board by value.
-pub fn reach(reader: Reader, board: Board, out: &mut [u8]) -> Wrote
+pub fn reach(reader: TeamReader, board: TeamBoard, out: &mut [u8]) -> Wrote
     ensures { λ r. ⌜ ReachIs reader board (now (out .entry)) r (now (out .exit)) ⌝ }
 {
-    let s = reader.scalars;
-    let e = reader.entries;
-    let tick = board.tick;
-    let w = board.entries;
+    let plain = reader.reader;
+    let teams = reader.teams;
+    let s = plain.scalars;
+    let e = plain.entries;
+    let wanted = board.board;
+    let wteams = board.teams;
+    let tick = wanted.tick;
+    let w = wanted.entries;
     reach_lent(
         s,
         &e.marks,
@@ -496,12 +416,14 @@ pub fn reach(reader: Reader, board: Board, out: &mut [u8]) -> Wrote
         &e.ys,
         &e.held,
         &e.inputs,
+        &teams,
         tick,
         &w.marks,
         &w.xs,
         &w.ys,
         &w.held,
         &w.inputs,
+        &wteams,
         out,
     )
 }

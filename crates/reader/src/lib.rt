@@ -50,7 +50,7 @@ fn answered(told: Heard, entries: Entries) -> ReadAnswer
 }
 
 // A refusal that changes nothing.
-fn refused(reader: Reader, why: Refusal) -> ReadAnswer
+pub fn refused(reader: Reader, why: Refusal) -> ReadAnswer
     ensures { λ r. ⌜ Tells (stepOf (refusing why) (reader .scalars) (memoryOf (reader .entries))) r ⌝ }
 {
     let scalars = reader.scalars;

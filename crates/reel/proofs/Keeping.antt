@@ -13,7 +13,7 @@ use Rattle.state.specs.State.{tenOf, putTen}
 use Rattle.state.proofs.Every.{left-of}
 use Rattle.state.proofs.Ten.{put-length, ten-other, ten-put}
 use Rattle.back.specs.declared.Undo.{Undo}
-use Rattle.back.specs.declared.Undo.the-variants.{Start, End, New, Change, Old, Input, Nothing}
+use Rattle.back.specs.declared.Undo.the-variants.{Start, End, New, Change, Old, Input, Team, Nothing}
 use Rattle.reel.specs.Reel.{ofInput, row, numbersOf, placeAfter, rowAt, rowsOf, keepRow}
 use Rattle.reel.specs.Laws.{SoundReel}
 use Rattle.reel.specs.declared.Reel.{Reel}
@@ -29,6 +29,7 @@ ten-kept (End t) a b i e = refl
 ten-kept (New c x y) a b i e = refl
 ten-kept (Change c x y old-x old-y) a b i e = refl
 ten-kept (Old c x y) a b i e = refl
+ten-kept (Team c n m) a b i e = refl
 ten-kept Nothing a b i e = refl
 
 size-kept : (u : Undo) (a b : List ℤ) (n : ℕ) → length a ≡ n → length b ≡ n → length (ofInput u a b) ≡ n
@@ -38,6 +39,7 @@ size-kept (End t) a b n e f = f
 size-kept (New c x y) a b n e f = f
 size-kept (Change c x y old-x old-y) a b n e f = f
 size-kept (Old c x y) a b n e f = f
+size-kept (Team c t m) a b n e f = f
 size-kept Nothing a b n e f = f
 
 -- a row looks at them only where they are an input's
@@ -49,6 +51,7 @@ its-row (End t) p a b x y ten former e f = refl
 its-row (New c x y) p a b v w ten former e f = refl
 its-row (Change c x y old-x old-y) p a b v w ten former e f = refl
 its-row (Old c x y) p a b v w ten former e f = refl
+its-row (Team c n m) p a b x y ten former e f = refl
 its-row Nothing p a b x y ten former e f = refl
 
 -- ---- the reel

@@ -2,8 +2,9 @@
 use mathlib.Core.Path.{_≡_, refl}
 use mathlib.Core.Bool.{true, false}
 use lib.ListN.{length}
+use Rattle.teams.specs.declared.Team.the-variants.{Number, NoTeam}
 use Rattle.back.specs.declared.Undo.{Undo}
-use Rattle.back.specs.declared.Undo.the-variants.{Start, End, New, Change, Old, Input, Nothing}
+use Rattle.back.specs.declared.Undo.the-variants.{Start, End, New, Change, Old, Input, Team, Nothing}
 use Rattle.reel.specs.Reel.{numbersOf, undoIn}
 
 pub undo-told : (u : Undo) → undoIn (numbersOf u) ≡ u
@@ -15,6 +16,8 @@ undo-told (Change c x y old-x old-y) = refl
 undo-told (Old c x y) = refl
 undo-told (Input c true) = refl
 undo-told (Input c false) = refl
+undo-told (Team c n (Number m)) = refl
+undo-told (Team c n NoTeam) = refl
 undo-told Nothing = refl
 
 pub ten-numbers : (u : Undo) → length (numbersOf u) ≡ 10
@@ -24,4 +27,5 @@ ten-numbers (New c x y) = refl
 ten-numbers (Change c x y old-x old-y) = refl
 ten-numbers (Old c x y) = refl
 ten-numbers (Input c had) = refl
+ten-numbers (Team c n m) = refl
 ten-numbers Nothing = refl

@@ -12,8 +12,8 @@ pub rows-tell : RowsTell
 rows-tell = undo-told
 
 pub keeps : Keeps
-keeps l e ten former s its before =
-    record { sound = keep-sound l (undoOf e) ten former s; holds = keep-holds l (undoOf e) ten former s its before }
+keeps l e ten former m s its before =
+    record { sound = keep-sound l (undoOf e m) ten former s; holds = keep-holds l (undoOf e m) ten former s its before }
 
 empty-sound : SoundReel emptyReel
 unfolding emptyReel

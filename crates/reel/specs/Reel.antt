@@ -9,9 +9,12 @@ use Rattle.refusal.specs.declared.Refusal.the-variants.{BadState}
 use Rattle.fields.specs.Views.{zeros}
 use Rattle.state.specs.State.{sameInt, tenOf, putTen}
 use Rattle.state.specs.Reading.{Event}
+use Rattle.teams.specs.Teams.{markFor, numberFor}
+use Rattle.teams.specs.declared.Team as teams
+use Rattle.teams.specs.declared.Team.the-variants.{Number, NoTeam}
 use Rattle.back.specs.Undo.{undoOf}
 use Rattle.back.specs.declared.Undo.{Undo}
-use Rattle.back.specs.declared.Undo.the-variants.{Start, End, New, Change, Old, Input, Nothing}
+use Rattle.back.specs.declared.Undo.the-variants.{Start, End, New, Change, Old, Input, Team, Nothing}
 use Rattle.reel.specs.declared.Counts.{Counts}
 use Rattle.reel.specs.declared.Reel.{Reel}
 use Rattle.reel.specs.declared.KeepAnswer.the-variants as answers
@@ -32,6 +35,7 @@ ofInput (End t) its none = none
 ofInput (New c x y) its none = none
 ofInput (Change c x y old-x old-y) its none = none
 ofInput (Old c x y) its none = none
+ofInput (Team c n m) its none = none
 ofInput Nothing its none = none
 
 abbrev pub row : Undo → List ℤ → List ℤ → Row
@@ -54,6 +58,7 @@ numbersOf (New c x y) = ten 3 c x y (pos 0) (pos 0)
 numbersOf (Change c x y old-x old-y) = ten 4 c x y old-x old-y
 numbersOf (Old c x y) = ten 5 c x y (pos 0) (pos 0)
 numbersOf (Input c had) = ten 6 c (flag had) (pos 0) (pos 0) (pos 0)
+numbersOf (Team c n m) = ten 8 c n (markFor m) (numberFor m) (pos 0)
 numbersOf Nothing = ten 7 (pos 0) (pos 0) (pos 0) (pos 0) (pos 0)
 
 -- a row that is no event's is taken for TickEnd of -1, which fits no board
@@ -65,6 +70,9 @@ isNumber n z = sameInt z (pos n)
 
 abbrev pub inputRow : ℤ → ℤ → Undo
 inputRow c had = cond (isNumber 1 had) (Input c true) (cond (isNumber 0 had) (Input c false) noEvent)
+
+abbrev pub teamRow : ℤ → ℤ → ℤ → ℤ → Undo
+teamRow c n mark number = cond (isNumber 1 mark) (Team c n (Number number)) (cond (isNumber 0 mark) (Team c n NoTeam) noEvent)
 
 -- what ten numbers tell, whoever wrote them: those that an event doesn't have are not looked at
 unfoldable pub undoIn : List ℤ → Undo
@@ -79,7 +87,8 @@ undoIn ns =
     (cond (isNumber 4 k) (Change a b c (getD ns 4 (pos 0)) (getD ns 5 (pos 0)))
     (cond (isNumber 5 k) (Old a b c)
     (cond (isNumber 6 k) (inputRow a b)
-    (cond (isNumber 7 k) Nothing noEvent))))))
+    (cond (isNumber 7 k) Nothing
+    (cond (isNumber 8 k) (teamRow a b c (getD ns 4 (pos 0))) noEvent)))))))
 
 -- ---- the reel: 512 places, one after the other, the first after the last
 
@@ -132,12 +141,12 @@ keepRow l u ten former =
     reelOf (oneMore (l .counts)) (putTen (l .rows) p (numbersOf u)) (ofInput u (putTen (l .inputs) p ten) (l .inputs))
     (ofInput u (putTen (l .formers) p former) (l .formers))
 
--- an event in the next place
-abbrev pub keep : Reel → Event → List ℤ → List ℤ → Reel
-keep l e ten former = keepRow l (undoOf e) ten former
+-- an event in the next place; m is the former team beside a PlayerTeam
+abbrev pub keep : Reel → Event → List ℤ → List ℤ → teams.Team → Reel
+keep l e ten former m = keepRow l (undoOf e m) ten former
 
 -- what a call hands back: a bad reel is refused 17, and nothing changes
-unfoldable pub keeping : Reel → Event → List ℤ → List ℤ → KeptReel
-keeping l e ten former =
-    cond (goodReel l) (record { answer = answers.Kept; reel = keep l e ten former })
+unfoldable pub keeping : Reel → Event → List ℤ → List ℤ → teams.Team → KeptReel
+keeping l e ten former m =
+    cond (goodReel l) (record { answer = answers.Kept; reel = keep l e ten former m })
     (record { answer = answers.Refused BadState; reel = l })

@@ -1,8 +1,9 @@
 // The reel: the last 512 events of a reader with what stepping back needs, in a ring of flat arrays.
 ghost use mathlib.Core.Path.{_≡_};
-ghost use Rattle.reel.specs.Reel.{inputRow, undoIn, placeBefore, placeAfter, goodCounts, oneMore, emptyReel};
+ghost use Rattle.reel.specs.Reel.{inputRow, teamRow, undoIn, placeBefore, placeAfter, goodCounts, oneMore, emptyReel};
 use back::Undo;
 use refusal::Refusal;
+use teams::Team;
 
 // The place of the next row, below 512, and how many rows are kept, at most 512.
 pub struct Counts {
@@ -93,6 +94,26 @@ fn input_row(cid: i32, had: i32) -> Undo
     Undo::End(-1)
 }
 
+fn team_row(cid: i32, team: i32, mark: i32, number: i32) -> Undo
+    ensures { λ r. ⌜ r ≡ teamRow cid team mark number ⌝ }
+{
+    if mark == 1 {
+        return Undo::Team {
+            cid,
+            team,
+            former: Team::Number(number),
+        };
+    }
+    if mark == 0 {
+        return Undo::Team {
+            cid,
+            team,
+            former: Team::NoTeam,
+        };
+    }
+    Undo::End(-1)
+}
+
 // What the ten numbers of a row tell.
 pub fn undo_in(n: [i32; 10]) -> Undo
     ensures { λ r. ⌜ r ≡ undoIn n ⌝ }
@@ -114,6 +135,7 @@ pub fn undo_in(n: [i32; 10]) -> Undo
         5 => Undo::Old { cid, x, y },
         6 => input_row(cid, x),
         7 => Undo::Nothing,
+        8 => team_row(cid, x, y, n[4]),
         _ => Undo::End(-1),
     }
 }

@@ -3,17 +3,19 @@
 // Standard input holds cases one behind the other, each after its length in two bytes, the low one first: what it is, the length of its name,
 // the name, bytes. A number is 100 more than it stands for.
 //   0: a rewind. A reader as alike::reader_in takes it, a tick, a client that is looked up on the copy, a reel
-//   1: an event kept. Its sort as in a row, five numbers, the place of one of its ten numbers, that number, the former one, a reel
+//   1: an event kept. Its sort as in a row, five numbers, the place of one of its ten numbers, that number, the former one, a reel. Beside a
+//      record the former team is the fourth number, if the third is 1
 //   2: reading. A reader, the most events, whether the window is the last, its length, the window, a reel
 //   3: a reel: its counts, and what the row before the next place tells
 //   4: a rewind under way. A reader whose board is the copy, a tick, a client that is looked up after each call, how many rows are newer than
 //      TickStart in two bytes, whether an event didn't fit, the number of calls, of each call the number of events in two bytes, a reel
 //   5: a start. A reader, a tick, a client and the calls on what is started as in 4, a reel
+//   10, 12, 14, 15: as 0, 2, 4, 5, with the reader's teams, as team_alike::teams_in takes them, behind its other bytes
 // A reel is the next place and the number of rows kept, two bytes each, the low one first; the first number of every row; how many rows are
 // written over; each of these: its place in two bytes, its first six numbers, the place of one of its ten numbers, that number, the former one.
 mod under_way;
 
-use back::Board;
+use back::TeamBoard;
 use back::Undo;
 use item::Item;
 use kinds::Version;
@@ -28,7 +30,8 @@ use reel::Reel;
 use rewinding::RewindAnswer;
 use rewinding::Rewound;
 use state::Event;
-use state::Reader;
+use teams::Team;
+use teams::TeamReader;
 use texts::Text;
 use varint::Wrote;
 
@@ -156,8 +159,17 @@ fn event_in(s: &[u8]) -> Event {
             cid,
             former: x == 1,
         },
+        8 => Event::Record(Item::PlayerTeam { cid, team: x }),
         _ => Event::Record(Item::Join { cid }),
     }
+}
+
+// The former team beside it.
+fn team_in(s: &[u8]) -> Team {
+    if (7 <= cases::byte(s, 0)) & (cases::number(s, 3) == 1) {
+        return Team::Number(cases::number(s, 4));
+    }
+    Team::NoTeam
 }
 
 fn ten_with(k: usize, n: i32) -> [i32; 10] {
@@ -213,7 +225,7 @@ fn print_reel(given: Reel, p: usize) {
 // ---- a rewind
 
 fn print_rewound(rewound: Rewound) {
-    let mut text = [0u8; 23324];
+    let mut text = [0u8; 27036];
     let Wrote::Past(n) = board_lines::write_rewound(rewound, &mut text, 0) else {
         return;
     };
@@ -221,7 +233,7 @@ fn print_rewound(rewound: Rewound) {
 }
 
 // What lookups found.
-fn print_found(pos: Pos, looked: InputOf) {
+fn print_found(pos: Pos, looked: InputOf, team: Team) {
     match pos {
         Pos::At { x, y } => print(texts::plain(b"at", &[x, y])),
         Pos::NoPos => say(b"nowhere\n"),
@@ -230,10 +242,13 @@ fn print_found(pos: Pos, looked: InputOf) {
     if looked.there {
         print_ten(b"has", ten);
     }
+    if let Team::Number(n) = team {
+        print(texts::plain(b"joined", &[n]));
+    }
 }
 
-fn blank() -> Board {
-    back::board_of(Reader::empty(Version::V1))
+fn blank() -> TeamBoard {
+    back::team_board_of(TeamReader::empty(Version::V1))
 }
 
 fn number_of(answer: RewindAnswer) -> u8 {
@@ -249,11 +264,16 @@ fn report(rewound: Rewound, cid: i32) {
     let board = rewound.board;
     print_rewound(rewound);
     if number_of(answer) == 0 {
-        print_found(back::player_pos(board, cid), back::input(board, cid));
+        let plain = board.board;
+        print_found(
+            back::player_pos(plain, cid),
+            back::input(plain, cid),
+            back::team(board, cid),
+        );
         return;
     }
     say_if(
-        !alike::same_board(board, blank()),
+        !team_alike::same_team_board(board, blank()),
         b"the board is not blank\n",
     );
 }
@@ -263,19 +283,18 @@ fn same_rewound(a: Rewound, b: Rewound) -> bool {
     let other = b.board;
     let first = a.answer;
     let second = b.answer;
-    alike::same_board(one, other) & (number_of(first) == number_of(second))
+    team_alike::same_team_board(one, other) & (number_of(first) == number_of(second))
 }
 
-fn rewind_case(s: &[u8]) {
-    let reader = alike::reader_in(cases::window(s, 0, 14));
-    let tick = cases::number(s, 14);
-    let given = reel_in(cases::window(s, 16, s.len()));
+fn rewind_case(reader: TeamReader, s: &[u8]) {
+    let tick = cases::number(s, 0);
+    let given = reel_in(cases::window(s, 2, s.len()));
     let counts = given.counts;
     let rows = given.rows;
     let inputs = given.inputs;
     let formers = given.formers;
     let rewound = rewinding::rewind_lent(reader, counts, &rows, &inputs, &formers, tick);
-    report(rewound, cases::number(s, 15));
+    report(rewound, cases::number(s, 1));
     say_if(
         !same_rewound(rewound, rewinding::rewind(reader, given, tick)),
         b"by value it differs\n",
@@ -310,7 +329,13 @@ fn same_kept(a: KeptReel, b: KeptReel) -> bool {
     same_reel(one, other) & (kept_number(first) == kept_number(second))
 }
 
-fn keep_lent(given: Reel, event: Event, input: [i32; 10], former: [i32; 10]) -> KeptReel {
+fn keep_lent(
+    given: Reel,
+    event: Event,
+    input: [i32; 10],
+    former: [i32; 10],
+    team: Team,
+) -> KeptReel {
     let counts = given.counts;
     let mut rows = given.rows;
     let mut inputs = given.inputs;
@@ -318,6 +343,7 @@ fn keep_lent(given: Reel, event: Event, input: [i32; 10], former: [i32; 10]) -> 
     let kept = keeping::keep_lent(
         counts,
         event,
+        team,
         &input,
         &former,
         &mut rows,
@@ -339,19 +365,20 @@ fn keep_lent(given: Reel, event: Event, input: [i32; 10], former: [i32; 10]) -> 
 
 fn keep_case(s: &[u8]) {
     let event = event_in(s);
+    let team = team_in(s);
     let k = cases::size(cases::byte(s, 6));
     let input = ten_with(k, cases::number(s, 7));
     let former = ten_with(k, cases::number(s, 8));
     let given = reel_in(cases::window(s, 9, s.len()));
     let counts = given.counts;
-    let kept = keep_lent(given, event, input, former);
+    let kept = keep_lent(given, event, input, former, team);
     let answer = kept.answer;
     let left = kept.reel;
     print_kept(answer);
     print_reel(left, counts.next);
     say_if(same_reel(given, left), b"the reel is as it was\n");
     say_if(
-        !same_kept(kept, keeping::keep(given, event, input, former)),
+        !same_kept(kept, keeping::keep(given, event, input, former, team)),
         b"by value it differs\n",
     );
 }
@@ -367,7 +394,21 @@ fn print_stop(stop: Stop) {
     }
 }
 
-fn read(reader: Reader, most: usize, last: bool, window: &[u8], given: Reel) {
+fn print_team(cid: i32, team: Team) {
+    if let Team::Number(n) = team {
+        print(texts::plain(b"team", &[cid, n]));
+    }
+}
+
+// Of each client that has one.
+fn print_teams(teams: &[i32; 256]) {
+    for c in 0..128u32 {
+        let cid = num::signed(c);
+        print_team(cid, teams::team_of(teams, cid));
+    }
+}
+
+fn read(reader: TeamReader, most: usize, last: bool, window: &[u8], given: Reel) {
     let counts = given.counts;
     let mut rows = given.rows;
     let mut inputs = given.inputs;
@@ -394,20 +435,21 @@ fn read(reader: Reader, most: usize, last: bool, window: &[u8], given: Reel) {
     print_stop(stop);
     print_two(b"events and bytes ", got.count, got.used);
     print_reel(left, reel::place_before(kept.next));
+    print_teams(&next.teams);
     say_if(same_reel(given, left), b"the reel is as it was\n");
     say_if(
-        alike::same_reader(reader, next),
+        team_alike::same_team_reader(reader, next),
         b"the reader is as it was\n",
     );
 }
 
-fn read_case(s: &[u8]) {
-    let end = 17 + cases::size(cases::byte(s, 16));
+fn read_case(reader: TeamReader, s: &[u8]) {
+    let end = 3 + cases::size(cases::byte(s, 2));
     read(
-        alike::reader_in(cases::window(s, 0, 14)),
-        cases::size(cases::byte(s, 14)),
-        cases::byte(s, 15) == 1,
-        cases::window(s, 17, end),
+        reader,
+        cases::size(cases::byte(s, 0)),
+        cases::byte(s, 1) == 1,
+        cases::window(s, 3, end),
         reel_in(cases::window(s, end, s.len())),
     );
 }
@@ -433,6 +475,18 @@ fn told(undo: Undo) -> [i32; 10] {
         } => [4, cid, x, y, old_x, old_y, 0, 0, 0, 0],
         Undo::Old { cid, x, y } => [5, cid, x, y, 0, 0, 0, 0, 0, 0],
         Undo::Input { cid, former } => [6, cid, flag(former), 0, 0, 0, 0, 0, 0, 0],
+        Undo::Team { cid, team, former } => [
+            8,
+            cid,
+            team,
+            teams::mark_for(former),
+            teams::number_for(former),
+            0,
+            0,
+            0,
+            0,
+            0,
+        ],
         Undo::Nothing => [7, 0, 0, 0, 0, 0, 0, 0, 0, 0],
     }
 }
@@ -452,14 +506,34 @@ fn reel_case(s: &[u8]) {
 
 // ---- cases
 
+// Behind a reader.
+fn run_read(what: u8, reader: TeamReader, s: &[u8]) {
+    match what {
+        0 => rewind_case(reader, s),
+        2 => read_case(reader, s),
+        4 => under_way::go_case(reader, s),
+        _ => under_way::start_case(reader, s),
+    }
+}
+
+// A reader in so many bytes.
+fn run_behind(what: u8, n: usize, s: &[u8]) {
+    run_read(
+        what,
+        team_alike::team_reader_in(cases::window(s, 0, n)),
+        cases::window(s, n, s.len()),
+    );
+}
+
 fn run_named(what: u8, s: &[u8]) {
     match what {
-        0 => rewind_case(s),
         1 => keep_case(s),
-        2 => read_case(s),
         3 => reel_case(s),
-        4 => under_way::go_case(s),
-        _ => under_way::start_case(s),
+        10 => run_behind(0, 17, s),
+        12 => run_behind(2, 17, s),
+        14 => run_behind(4, 17, s),
+        15 => run_behind(5, 17, s),
+        _ => run_behind(what, 14, s),
     }
 }
 

@@ -13,6 +13,7 @@ use crate::say_if;
 use crate::say_two;
 use back::Board;
 use back::BoardTick;
+use back::TeamBoard;
 use going::Go;
 use going::GoAnswer;
 use going::LentGo;
@@ -24,7 +25,7 @@ use libc::STDOUT_FILENO;
 use reel::Reel;
 use rewinding::Rewound;
 use state::Entries;
-use state::Reader;
+use teams::TeamReader;
 use varint::Wrote;
 
 // ---- lines
@@ -34,8 +35,8 @@ fn say_number(word: &[u8], n: usize) {
     io::print_decimal(STDOUT_FILENO, n as u64);
 }
 
-fn print_gone(answer: GoAnswer, board: Board) {
-    let mut text = [0u8; 23324];
+fn print_gone(answer: GoAnswer, board: TeamBoard) {
+    let mut text = [0u8; 27036];
     let Wrote::Past(n) = board_lines::write_gone(answer, board, &mut text, 0) else {
         return;
     };
@@ -58,6 +59,7 @@ fn print_looked(rewind: Rewind, cid: i32) {
     print_found(
         rewinds::player_pos(rewind, cid),
         rewinds::input(rewind, cid),
+        rewinds::team(rewind, cid),
     );
     match rewinds::tick(rewind) {
         BoardTick::In(t) => print(texts::plain(b"in", &[t])),
@@ -92,7 +94,7 @@ fn same_copy(a: Rewind, b: Rewind) -> bool {
     let other = b.board;
     let first = a.progress;
     let second = b.progress;
-    alike::same_board(one, other) & same_progress(first, second)
+    team_alike::same_team_board(one, other) & same_progress(first, second)
 }
 
 fn same_rewind(a: Rewind, b: Rewind) -> bool {
@@ -111,7 +113,7 @@ fn same_go(a: Go, b: Go) -> bool {
 
 // ---- calls that go on
 
-fn went(left: LentGo, entries: Entries, own: Reel) -> Go {
+fn went(left: LentGo, entries: Entries, teams: [i32; 256], own: Reel) -> Go {
     let answer = left.answer;
     let tick = left.tick;
     let counts = left.counts;
@@ -122,7 +124,10 @@ fn went(left: LentGo, entries: Entries, own: Reel) -> Go {
     Go {
         answer,
         rewind: Rewind {
-            board: Board { tick, entries },
+            board: TeamBoard {
+                board: Board { tick, entries },
+                teams,
+            },
             reel: Reel {
                 counts,
                 rows,
@@ -135,7 +140,9 @@ fn went(left: LentGo, entries: Entries, own: Reel) -> Go {
 }
 
 fn go_lent(rewind: Rewind, events: usize) -> Go {
-    let board = rewind.board;
+    let copy = rewind.board;
+    let mut teams = copy.teams;
+    let board = copy.board;
     let tick = board.tick;
     let entries = board.entries;
     let mut marks = entries.marks;
@@ -144,11 +151,9 @@ fn go_lent(rewind: Rewind, events: usize) -> Go {
     let mut held = entries.held;
     let mut inputs = entries.inputs;
     let own = rewind.reel;
-    let counts = own.counts;
     let rows = own.rows;
     let tens = own.inputs;
     let formers = own.formers;
-    let progress = rewind.progress;
     let left = going::go_lent(
         tick,
         &mut marks,
@@ -156,11 +161,12 @@ fn go_lent(rewind: Rewind, events: usize) -> Go {
         &mut ys,
         &mut held,
         &mut inputs,
-        counts,
+        &mut teams,
+        own.counts,
         &rows,
         &tens,
         &formers,
-        progress,
+        rewind.progress,
         events,
     );
     let made = Entries {
@@ -170,7 +176,7 @@ fn go_lent(rewind: Rewind, events: usize) -> Go {
         held,
         inputs,
     };
-    went(left, made, own)
+    went(left, made, teams, own)
 }
 
 fn go_once(rewind: Rewind, events: usize, cid: i32) -> Rewind {
@@ -209,19 +215,18 @@ fn behind_calls(s: &[u8]) -> &[u8] {
     cases::window(s, 1 + 2 * cases::size(cases::byte(s, 0)), s.len())
 }
 
-pub fn go_case(s: &[u8]) {
-    let calls = cases::window(s, 19, s.len());
-    let reader = alike::reader_in(cases::window(s, 0, 14));
+pub fn go_case(reader: TeamReader, s: &[u8]) {
+    let calls = cases::window(s, 5, s.len());
     let rewind = Rewind {
-        board: back::board_of(reader),
+        board: back::team_board_of(reader),
         reel: reel_in(behind_calls(calls)),
         progress: Progress {
-            tick: cases::number(s, 14),
-            newer: place_in(cases::window(s, 16, 18)),
-            misfit: cases::byte(s, 18) == 1,
+            tick: cases::number(s, 0),
+            newer: place_in(cases::window(s, 2, 4)),
+            misfit: cases::byte(s, 4) == 1,
         },
     };
-    go_each(rewind, cases::number(s, 15), calls);
+    go_each(rewind, cases::number(s, 1), calls);
 }
 
 // ---- a start
@@ -237,7 +242,7 @@ fn lent_reel(given: Reel) -> Reel {
     }
 }
 
-fn start_lent(reader: Reader, given: Reel, tick: i32) -> Start {
+fn start_lent(reader: TeamReader, given: Reel, tick: i32) -> Start {
     let counts = given.counts;
     let rows = given.rows;
     let inputs = given.inputs;
@@ -305,13 +310,13 @@ fn no_rewind() -> Rewind {
 }
 
 // Nothing is stepped over yet.
-fn report_started(rewind: Rewind, reader: Reader, given: Reel) {
+fn report_started(rewind: Rewind, reader: TeamReader, given: Reel) {
     let board = rewind.board;
     let own = rewind.reel;
     say(b"started\n");
     print_own(rewind);
     say_if(
-        !alike::same_board(board, back::board_of(reader)),
+        !team_alike::same_team_board(board, back::team_board_of(reader)),
         b"the copy is not the reader's board\n",
     );
     say_if(
@@ -320,10 +325,9 @@ fn report_started(rewind: Rewind, reader: Reader, given: Reel) {
     );
 }
 
-pub fn start_case(s: &[u8]) {
-    let calls = cases::window(s, 16, s.len());
-    let reader = alike::reader_in(cases::window(s, 0, 14));
-    let tick = cases::number(s, 14);
+pub fn start_case(reader: TeamReader, s: &[u8]) {
+    let calls = cases::window(s, 2, s.len());
+    let tick = cases::number(s, 0);
     let given = reel_in(behind_calls(calls));
     let got = rewinds::start_rewind(reader, given, tick);
     let answer = got.answer;
@@ -340,12 +344,12 @@ pub fn start_case(s: &[u8]) {
     }
     report_lent(start_lent(reader, given, tick), got, given);
     if start_number(answer) == 0 {
-        go_each(rewind, cases::number(s, 15), calls);
+        go_each(rewind, cases::number(s, 1), calls);
     }
 }
 
 // Whether a start and one call over 512 events answer what a rewind does.
-pub fn same_in_calls(rewound: Rewound, reader: Reader, given: Reel, tick: i32) -> bool {
+pub fn same_in_calls(rewound: Rewound, reader: TeamReader, given: Reel, tick: i32) -> bool {
     let answer = rewound.answer;
     let board = rewound.board;
     let n = number_of(answer);
@@ -359,5 +363,5 @@ pub fn same_in_calls(rewound: Rewound, reader: Reader, given: Reel, tick: i32) -
     let ending = gone.answer;
     let left = gone.rewind;
     let copy = left.board;
-    (go_number(ending) == n) & ((n != 0) | alike::same_board(copy, board))
+    (go_number(ending) == n) & ((n != 0) | team_alike::same_team_board(copy, board))
 }

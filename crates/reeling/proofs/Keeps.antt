@@ -21,37 +21,48 @@ use Rattle.state.specs.steps.Parts.{memoryOf}
 use Rattle.state.proofs.Acts.{acts}
 use Rattle.state.proofs.Every.{by-cond}
 use Rattle.state.proofs.Numbers.{picks-first}
+use Rattle.teams.specs.Teams.{Joining, joins, nobody, joiningIn}
+use Rattle.teams.specs.declared.Team.{Team}
+use Rattle.teams.proofs.Joins.{joining-own}
 use Rattle.rests.proofs.Slim.{slim-same}
+use Rattle.back.specs.Undo.{undoJoining}
 use Rattle.reel.specs.Reel.{placeAfter, goodCounts, goodReel, oneMore, keepRow, keep, keeping}
 use Rattle.reel.specs.declared.Counts.{Counts}
 use Rattle.reel.specs.declared.KeptReel.{KeptReel}
 use Rattle.reel.specs.declared.Reel.{Reel}
 use Rattle.many.proofs.OneCall.{readerOf}
 
-pub slim-keep : (l : Reel) (e : Event) (ten former : List ℤ) → keep l (slim e) ten former ≡ keep l e ten former
-slim-keep l e ten former = slim-same (λ (d : Event). keep l d ten former) (λ r. refl) e
+pub slim-keep : (l : Reel) (e : Event) (ten former : List ℤ) (team : Team) → keep l (slim e) ten former team ≡ keep l e ten former team
+slim-keep l e ten former team =
+    slim-same (λ (d : Event). keep l d ten former team) (λ r. ap (λ (j : Joining). keepRow l (undoJoining j team) ten former) (joining-own r)) e
 
--- the reel after what a call says
-abbrev pub keepSaid : Reel → Said Event → Memory → Reel
-keepSaid l (gives e n) m = keep l e (m .input) (m .former)
-keepSaid l more m = l
-keepSaid l (finish n) m = l
-keepSaid l (refuses k vs) m = l
+-- of a record that is no input no ten numbers are kept
+record-alike : (l : Reel) (j : Joining) (team : Team) (a b x y : List ℤ) → keepRow l (undoJoining j team) a b ≡ keepRow l (undoJoining j team) x y
+unfolding keepRow
+record-alike l (joins c n) team a b x y = refl
+record-alike l nobody team a b x y = refl
 
-abbrev keepStep : Reel → Step → Reel
-keepStep l t = keepSaid l (t .said) (t .memory)
+-- the reel after what a call says, with this former team
+abbrev pub keepSaid : Reel → Team → Said Event → Memory → Reel
+keepSaid l team (gives e n) m = keep l e (m .input) (m .former) team
+keepSaid l team more m = l
+keepSaid l team (finish n) m = l
+keepSaid l team (refuses k vs) m = l
+
+abbrev keepStep : Reel → Team → Step → Reel
+keepStep l team t = keepSaid l team (t .said) (t .memory)
 
 -- calls that a reel keeps alike
-record AsKept (l : Reel) (t u : Step) : Type 0 where
-  same : keepStep l t ≡ keepStep l u
+record AsKept (l : Reel) (team : Team) (t u : Step) : Type 0 where
+  same : keepStep l team t ≡ keepStep l team u
 
-module _ {l : Reel} where
-  by-both : (b : Bool) {x y p q : Step} → AsKept l x p → AsKept l y q → AsKept l (cond b x y) (cond b p q)
+module _ {l : Reel} {team : Team} where
+  by-both : (b : Bool) {x y p q : Step} → AsKept l team x p → AsKept l team y q → AsKept l team (cond b x y) (cond b p q)
   by-both true f g = f
   by-both false f g = g
 
   module _ {s : Scalars} {e : Entries} {w : List ℕ} {last : Bool} where
-    act-keeps : {f : Memory → Step} → Act s e w last f → (m k : Memory) → AsKept l (f m) (f k)
+    act-keeps : {f : Memory → Step} → Act s e w last f → (m k : Memory) → AsKept l team (f m) (f k)
     unfolding keepRow
     act-keeps (act.wantsMore a _) m k = record { same = refl }
     act-keeps (act.finishes h o) m k = record { same = refl }
@@ -69,18 +80,18 @@ module _ {l : Reel} where
     act-keeps (act.playerLeaves h i p) m k = record { same = refl }
     act-keeps (act.inputComes h i f b) m k = record { same = refl }
     act-keeps (act.inputMoves h i f p) m k = record { same = refl }
-    act-keeps (act.passes h o i) m k = record { same = refl }
+    act-keeps (act.passes {r = r} h o i) m k = record { same = record-alike l (joiningIn r) team _ _ _ _ }
 
-  good-keeps : (s : Scalars) (m : Memory) (w : List ℕ) (last : Bool) → AsKept l (goodCall s m w last) (goodCall s (memoryOf (m .entries)) w last)
+  good-keeps : (s : Scalars) (m : Memory) (w : List ℕ) (last : Bool) → AsKept l team (goodCall s m w last) (goodCall s (memoryOf (m .entries)) w last)
   unfolding goodCall
   good-keeps s m w last =
       by-both (isClosed (s .standing)) (record { same = refl }) (act-keeps (acts s (m .entries) w last) m (memoryOf (m .entries)))
 
-pub call-keeps : (l : Reel) (s : Scalars) (m : Memory) (w : List ℕ) (last : Bool) → Sound (readerOf s m)
-    → keepStep l (goodCall s m w last) ≡ keepStep l (readCall (readerOf s m) w last)
+pub call-keeps : (l : Reel) (team : Team) (s : Scalars) (m : Memory) (w : List ℕ) (last : Bool) → Sound (readerOf s m)
+    → keepStep l team (goodCall s m w last) ≡ keepStep l team (readCall (readerOf s m) w last)
 unfolding readCall
-call-keeps l s m w last sound =
-    good-keeps s m w last .same ∙ ap (keepStep l) (picks-first (goodReader (readerOf s m)) _ _ (sound .good))
+call-keeps l team s m w last sound =
+    good-keeps s m w last .same ∙ ap (keepStep l team) (picks-first (goodReader (readerOf s m)) _ _ (sound .good))
 
 -- ---- a good reel keeps every event and stays good
 
@@ -93,11 +104,11 @@ more-is-good k =
     let b : leb (min (k .count + 1) 512) 512 ≡ true = le-leb (min (k .count + 1) 512) 512 (omega arith) in
     ap (λ (x : Bool). x && leb (min (k .count + 1) 512) 512) a ∙ b
 
-module _ (l : Reel) (e : Event) (ten former : List ℤ) where
-  pub kept : (a : KeptReel) → goodReel l ≡ true → a ≡ keeping l e ten former → a .reel ≡ keep l e ten former
+module _ (l : Reel) (e : Event) (ten former : List ℤ) (team : Team) where
+  pub kept : (a : KeptReel) → goodReel l ≡ true → a ≡ keeping l e ten former team → a .reel ≡ keep l e ten former team
   unfolding keeping
   kept a good h = ap (λ (x : KeptReel). x .reel) (h ∙ sym (picks-first (goodReel l) _ _ good))
 
-  pub stays-good : (l₁ : Reel) → l₁ ≡ keep l e ten former → goodReel l₁ ≡ true
+  pub stays-good : (l₁ : Reel) → l₁ ≡ keep l e ten former team → goodReel l₁ ≡ true
   unfolding keepRow
   stays-good l₁ h = ap goodReel h ∙ more-is-good (l .counts)

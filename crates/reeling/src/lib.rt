@@ -7,6 +7,7 @@ ghost use Rattle.calls.specs.Along.{calls};
 ghost use Rattle.reel.specs.Reel.{goodCounts, reelOf};
 ghost use Rattle.reeling.specs.Reeling.{keptCalls, KeptIs};
 ghost use Rattle.reeling.specs.steps.Kept.{callsKept, answerOf, notRead};
+use keeping::keep_lent;
 use many::Stop;
 use reel::Counts;
 use refusal::Refusal;
@@ -14,17 +15,18 @@ use state::Answer;
 use state::Entries;
 use state::Reader;
 use state::Scalars;
+use teams::TeamReader;
 
 // Why the calls stopped, how many events there are, the bytes used in all, the reader and the reel's counts left.
 pub struct ReelRead {
     pub stop: Stop,
     pub count: usize,
     pub used: usize,
-    pub reader: Reader,
+    pub reader: TeamReader,
     pub counts: Counts,
 }
 
-// The same where the entries are lent.
+// The same where entries and teams are lent.
 struct CallsKept {
     stop: Stop,
     count: usize,
@@ -45,8 +47,8 @@ fn stopped(stop: Stop, count: usize, used: usize, scalars: Scalars, counts: Coun
     }
 }
 
-// Calls on lent entries while fewer events came than wanted and they give events, each of which the reel keeps. What input and former hold
-// before is never seen.
+// Calls on lent entries and teams while fewer events came than wanted and they give events, each of which the reel keeps. What input and
+// former hold before is never seen.
 fn keep_calls(
     scalars: Scalars,
     marks: &mut [u8; 128],
@@ -54,6 +56,7 @@ fn keep_calls(
     ys: &mut [i32; 128],
     held: &mut [u8; 128],
     inputs: &mut [i32; 1280],
+    teams: &mut [i32; 256],
     input: &mut [i32; 10],
     former: &mut [i32; 10],
     w: &[u8],
@@ -66,9 +69,9 @@ fn keep_calls(
 ) -> CallsKept
     requires { ⌜ Sound (readerWith scalars (entriesWith (now marks) (now xs) (now ys) (now held) (now inputs))) × (goodCounts reel ≡ true) ⌝ }
     ensures { λ r. ⌜
-        KeptIs (calls most (readerWith scalars (entriesWith (now (marks .entry)) (now (xs .entry)) (now (ys .entry)) (now (held .entry)) (now (inputs .entry)))) (now (w .entry)) last)
+        KeptIs (calls most (readerWith scalars (entriesWith (now (marks .entry)) (now (xs .entry)) (now (ys .entry)) (now (held .entry)) (now (inputs .entry)))) (now (w .entry)) last) (now (teams .entry))
         (reelOf reel (now (rows .entry)) (now (tens .entry)) (now (formers .entry)))
-        (answerOf r (entriesWith (now (marks .exit)) (now (xs .exit)) (now (ys .exit)) (now (held .exit)) (now (inputs .exit))))
+        (answerOf r (entriesWith (now (marks .exit)) (now (xs .exit)) (now (ys .exit)) (now (held .exit)) (now (inputs .exit))) (now (teams .exit)))
         (reelOf (r .counts) (now (rows .exit)) (now (tens .exit)) (now (formers .exit)))
         ⌝ }
 {
@@ -94,7 +97,8 @@ fn keep_calls(
         s = next;
         match answer {
             Answer::Event { event, used: n } => {
-                let kept = keeping::keep_lent(counts, event, input, former, rows, tens, formers);
+                let team = teams::apply(teams, event);
+                let kept = keep_lent(counts, event, team, input, former, rows, tens, formers);
                 let left = kept.counts;
                 counts = left;
                 used += n;
@@ -112,6 +116,7 @@ fn keep_calls(
 fn keep_good(
     scalars: Scalars,
     entries: Entries,
+    given: [i32; 256],
     window: &[u8],
     last: bool,
     most: usize,
@@ -122,7 +127,7 @@ fn keep_good(
 ) -> ReelRead
     requires { ⌜ (goodReader (readerWith scalars entries) ≡ true) × (goodCounts counts ≡ true) ⌝ }
     ensures { λ r. ⌜
-        KeptIs (calls most (readerWith scalars entries) (now (window .entry)) last)
+        KeptIs (calls most (readerWith scalars entries) (now (window .entry)) last) given
         (reelOf counts (now (rows .entry)) (now (tens .entry)) (now (formers .entry))) r
         (reelOf (r .counts) (now (rows .exit)) (now (tens .exit)) (now (formers .exit)))
         ⌝ }
@@ -132,6 +137,7 @@ fn keep_good(
     let mut ys = entries.ys;
     let mut held = entries.held;
     let mut inputs = entries.inputs;
+    let mut teams = given;
     let mut input = [0i32; 10];
     let mut former = [0i32; 10];
     let r = keep_calls(
@@ -141,6 +147,7 @@ fn keep_good(
         &mut ys,
         &mut held,
         &mut inputs,
+        &mut teams,
         &mut input,
         &mut former,
         window,
@@ -158,11 +165,11 @@ fn keep_good(
         held,
         inputs,
     };
-    answer_of(r, left)
+    answer_of(r, left, teams)
 }
 
-fn answer_of(r: CallsKept, entries: Entries) -> ReelRead
-    ensures { λ a. ⌜ a ≡ answerOf r entries ⌝ }
+fn answer_of(r: CallsKept, entries: Entries, teams: [i32; 256]) -> ReelRead
+    ensures { λ a. ⌜ a ≡ answerOf r entries teams ⌝ }
 {
     let stop = r.stop;
     let scalars = r.scalars;
@@ -171,12 +178,15 @@ fn answer_of(r: CallsKept, entries: Entries) -> ReelRead
         stop,
         count: r.count,
         used: r.used,
-        reader: Reader { scalars, entries },
+        reader: TeamReader {
+            reader: Reader { scalars, entries },
+            teams,
+        },
         counts,
     }
 }
 
-fn unread(why: Refusal, reader: Reader, counts: Counts) -> ReelRead
+fn unread(why: Refusal, reader: TeamReader, counts: Counts) -> ReelRead
     ensures { λ r. ⌜ r ≡ notRead why reader counts ⌝ }
 {
     ReelRead {
@@ -191,7 +201,7 @@ fn unread(why: Refusal, reader: Reader, counts: Counts) -> ReelRead
 // Reads until so many events came, the window runs out, the body finishes or a call is refused; the reel, whose arrays are lent, keeps the
 // events. Reader and reel are tested once, before the first call.
 pub fn read_kept(
-    reader: Reader,
+    reader: TeamReader,
     window: &[u8],
     last: bool,
     most: usize,
@@ -201,18 +211,23 @@ pub fn read_kept(
     formers: &mut [i32; 5120],
 ) -> ReelRead
     ensures { λ r. ⌜
-        KeptIs (keptCalls most reader (reelOf counts (now (rows .entry)) (now (inputs .entry)) (now (formers .entry))) (now (window .entry)) last)
+        KeptIs (keptCalls most reader (reelOf counts (now (rows .entry)) (now (inputs .entry)) (now (formers .entry))) (now (window .entry)) last) (reader .teams)
         (reelOf counts (now (rows .entry)) (now (inputs .entry)) (now (formers .entry))) r
         (reelOf (r .counts) (now (rows .exit)) (now (inputs .exit)) (now (formers .exit)))
         ⌝ }
 {
-    let scalars = reader.scalars;
-    let entries = reader.entries;
+    let teams = reader.teams;
+    let plain = reader.reader;
+    let scalars = plain.scalars;
+    let entries = plain.entries;
     if !good::both(
         reel::good_counts(counts),
         good::both(
-            good_reader::good_scalars(scalars),
-            good::good_entries(entries),
+            good::both(
+                good_reader::good_scalars(scalars),
+                good::good_entries(entries),
+            ),
+            teams::good_teams(&teams),
         ),
     ) {
         return unread(Refusal::BadState, reader, counts);
@@ -224,6 +239,7 @@ pub fn read_kept(
     keep_good(
         scalars,
         entries,
+        teams,
         window,
         last,
         most,

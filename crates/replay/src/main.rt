@@ -13,12 +13,12 @@ use lines::Ending;
 use packer::Part;
 use refusal::Refusal;
 use replayer::Turned;
-use state::Reader;
+use teams::TeamReader;
 use varint::Wrote;
 
 // What a turn leaves to the next: whether there is a next, and whether it wants more bytes.
 struct Left {
-    reader: Reader,
+    reader: TeamReader,
     hand: Hand,
     goes: bool,
     wants: bool,
@@ -139,7 +139,7 @@ fn number(b: u8) -> i32 {
 // What the first turn of a body begins with: what is at hand, behind the version byte.
 fn first_left(version: Version, hand: Hand, goes: bool) -> Left {
     Left {
-        reader: Reader::empty(version),
+        reader: TeamReader::empty(version),
         hand: feed::pass(hand, 1),
         goes,
         wants: false,

@@ -5,7 +5,7 @@ use kinds::Version;
 use kinds::VersionOf;
 use libc::STDOUT_FILENO;
 use refusal::Refusal;
-use state::Reader;
+use teams::TeamReader;
 
 // The first n bytes.
 fn print(text: &[u8], n: usize) {
@@ -25,7 +25,7 @@ fn come(hand: Hand, wants: bool, len: usize) -> Hand {
 
 // What a turn leaves, and whether it was the last.
 struct Left {
-    reader: Reader,
+    reader: TeamReader,
     hand: Hand,
     ended: bool,
 }
@@ -54,7 +54,7 @@ fn one_turn(left: Left, body: &[u8], rows: &mut [i32], tens: &mut [i32], out: &m
 // event of a pending kind, of which there are at most two for a byte.
 fn replay(version: Version, body: &[u8], rows: &mut [i32], tens: &mut [i32], out: &mut [u8]) {
     let mut left = Left {
-        reader: Reader::empty(version),
+        reader: TeamReader::empty(version),
         hand: Hand::empty(),
         ended: false,
     };

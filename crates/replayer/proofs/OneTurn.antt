@@ -10,7 +10,8 @@ use lib.Seq.{length-take-le}
 use lib.IntN.{ℤ, pos}
 use Rattle.varint.specs.Written.{written}
 use Rattle.packer.proofs.Joined.{written-length, two-puts}
-use Rattle.state.specs.declared.Reader.{Reader}
+use Rattle.teams.specs.declared.TeamReader.{TeamReader}
+use Rattle.team_calls.specs.Lists.{TeamSeen, teamsOver, withFormers}
 use Rattle.calls.specs.Calls.{Seen}
 use Rattle.calls.specs.Along.{along, Halt, isFull, wantsMore, finishes, isRefused, Run}
 use Rattle.calls.specs.Along.{allOf}
@@ -18,17 +19,17 @@ use Rattle.calls.specs.Laws.{TensBeside}
 use Rattle.calls.proofs.Theorems.{few-events, run-tens}
 use Rattle.rows.specs.Rows.{room, rowsFrom, tensFrom}
 use Rattle.rows.specs.steps.Stores.{AllInRows}
-use Rattle.rows.proofs.Blocks.{all-told, rows-length, tens-length, front-rows, front-tens}
+use Rattle.rows.proofs.Blocks.{formers-length, all-told, rows-length, tens-length, front-rows, front-tens}
 use Rattle.row_lines.specs.Text.{textOf}
 use Rattle.row_lines.specs.steps.RowLines.{PutsLines}
-use Rattle.row_lines.proofs.Onward.{text-le}
+use Rattle.row_lines.proofs.Onward.{formers-off, text-le}
 use Rattle.many.specs.Many.{manyCalls, haltOf, ManyIs}
 use Rattle.many.specs.declared.ManyAnswer.{ManyAnswer}
-use Rattle.many.proofs.Edges.{with-room}
+use Rattle.many.proofs.Edges.{with-room, no-calls, by-teams}
 use Rattle.lines.specs.Lines.{longest, refusedWord}
 use Rattle.lines.specs.steps.Puts.{PutsText}
 use Rattle.lines.proofs.Texts.{line-fits}
-use Rattle.windows.specs.Windows.{full, windowOf, isShort, isLastWindow, turnRun, ends, wants}
+use Rattle.windows.specs.Windows.{full, windowOf, isShort, isLastWindow, teamTurnRun, ends, wants}
 use Rattle.windows.proofs.AtHand.{take-least}
 use Rattle.replayer.specs.Replay.{endingOf, runText, turnRoom, noTurn, Turns}
 
@@ -46,15 +47,16 @@ written-front xs bs h =
     let e : 0 + length bs ≡ length bs = omega arith in
     rw (e, le-leb (length bs) (length xs) h)
 
-module _ (reader : Reader) (bytes : List ℕ) (input-ended : Bool) (rows tens : List ℤ) (out : List ℕ) (n : ℕ) (is : n ≡ turnRoom rows tens out) where
+module _ (reader : TeamReader) (bytes : List ℕ) (input-ended : Bool) (rows tens : List ℤ) (out : List ℕ) (n : ℕ) (is : n ≡ turnRoom rows tens out) where
   -- ---- room for no event
 
-  pub nothing : n ≡ 0 → Turns bytes (turnRun (turnRoom rows tens out) reader bytes input-ended) rows tens out
+  pub nothing : n ≡ 0 → Turns bytes (teamTurnRun (turnRoom rows tens out) reader bytes input-ended) (reader .teams) rows tens out
       (noTurn reader) rows tens out
-  unfolding along flatMap rowsFrom tensFrom
+  unfolding along flatMap rowsFrom tensFrom teamsOver withFormers
   nothing e =
       let z : turnRoom rows tens out ≡ 0 = sym is ∙ e in
-      rw z (record { left = refl; used = refl; filled = refl; ended = refl; wants = refl; out = refl; rows = refl; tens = refl })
+      rw (z, no-calls reader (windowOf bytes) (isLastWindow input-ended bytes))
+      (record { left = refl; used = refl; filled = refl; ended = refl; wants = refl; out = refl; rows = refl; tens = refl })
 
   -- ---- room for some
 
@@ -75,58 +77,69 @@ module _ (reader : Reader) (bytes : List ℕ) (input-ended : Bool) (rows tens : 
         omega arith
 
     abbrev run : Run
-    run = turnRun n reader bytes input-ended
+    run = teamTurnRun n reader bytes input-ended
 
     abbrev seen : List Seen
     seen = run .seen
 
+    abbrev all : List TeamSeen
+    all = withFormers (reader .teams) seen
+
     abbrev text : List ℕ
     text = runText (isShort bytes) run
 
+    events-le : length seen ≤ n
+    events-le =
+        by-teams (λ (r : Run). length (r .seen) ≤ n) n reader _ _
+        (few-events (allOf (isLastWindow input-ended bytes)) n (reader .reader) (windowOf bytes) .0) (λ h. omega arith)
+
+    tens-beside : TensBeside seen
+    unfolding TensBeside
+    tens-beside =
+        by-teams (λ (r : Run). TensBeside (r .seen)) n reader _ _
+        (run-tens (allOf (isLastWindow input-ended bytes)) n (reader .reader) (windowOf bytes)) (λ h. tt)
+
+    seen-rows : 8 * length seen ≤ length rows
+    seen-rows = omega (arith, events-le, rows-fit)
+
+    seen-tens : 20 * length seen ≤ length tens
+    seen-tens = omega (arith, events-le, tens-fit)
+
     module _ (m : ManyAnswer) (rows₁ tens₁ : List ℤ) (end : ℕ) (e : end ≡ min (length bytes) full)
         (last : Bool) (f : last ≡ isLastWindow input-ended bytes)
-        (t : ManyIs (manyCalls (room (take (8 * n) rows) (take (20 * n) tens)) reader (take end bytes) last) (take (8 * n) rows) (take (20 * n) tens) m rows₁ tens₁)
+        (t : ManyIs (manyCalls (room (take (8 * n) rows) (take (20 * n) tens)) reader (take end bytes) last) (reader .teams) (take (8 * n) rows) (take (20 * n) tens) m rows₁ tens₁)
       where
-        ran : ManyIs run (take (8 * n) rows) (take (20 * n) tens) m rows₁ tens₁
+        ran : ManyIs run (reader .teams) (take (8 * n) rows) (take (20 * n) tens) m rows₁ tens₁
         ran =
             let some-room : 0 < n = omega arith in
             rw (e, f, room-is, take-least bytes full, with-room n reader (windowOf bytes) (isLastWindow input-ended bytes) some-room) at t
 
-        count-le : m .count ≤ n
-        count-le = omega (arith, ran .count, few-events (allOf (isLastWindow input-ended bytes)) n reader (windowOf bytes) .0)
+        rows-now : rows₁ ++ drop (8 * n) rows ≡ rowsFrom 0 all rows
+        rows-now = rw (ran .rows) (front-rows (reader .teams) seen tens-beside (8 * n) rows rows-fit (omega (arith, events-le)))
 
-        tens-beside : TensBeside seen
-        tens-beside = run-tens (allOf (isLastWindow input-ended bytes)) n reader (windowOf bytes)
-
-        rows-now : rows₁ ++ drop (8 * n) rows ≡ rowsFrom 0 seen rows
-        rows-now = rw (ran .rows) (front-rows seen tens-beside (8 * n) rows rows-fit (omega (arith, ran .count, count-le)))
-
-        tens-now : tens₁ ++ drop (20 * n) tens ≡ tensFrom 0 seen tens
-        tens-now = rw (ran .tens) (front-tens seen tens-beside (20 * n) tens tens-fit (omega (arith, ran .count, count-le)))
-
-        seen-rows : 8 * length seen ≤ length rows
-        seen-rows = omega (arith, ran .count, count-le, rows-fit)
-
-        seen-tens : 20 * length seen ≤ length tens
-        seen-tens = omega (arith, ran .count, count-le, tens-fit)
+        tens-now : tens₁ ++ drop (20 * n) tens ≡ tensFrom 0 all tens
+        tens-now = rw (ran .tens) (front-tens (reader .teams) seen tens-beside (20 * n) tens tens-fit (omega (arith, events-le)))
 
         rows-enough : (8 * m .count ≤ length (rows₁ ++ drop (8 * n) rows)) × (20 * m .count ≤ length (tens₁ ++ drop (20 * n) tens))
         rows-enough =
-            rw (rows-now, tens-now, ran .count, rows-length seen tens-beside rows seen-rows, tens-length seen tens-beside tens seen-tens)
+            rw (rows-now, tens-now, ran .count, rows-length (reader .teams) seen tens-beside rows seen-rows, tens-length (reader .teams) seen tens-beside tens seen-tens)
             (seen-rows, seen-tens)
 
-        told : AllInRows 0 seen (rows₁ ++ drop (8 * n) rows) (tens₁ ++ drop (20 * n) tens)
+        told : AllInRows 0 all (rows₁ ++ drop (8 * n) rows) (tens₁ ++ drop (20 * n) tens)
         told =
             rw (rows-now, tens-now)
-            (all-told seen tens-beside rows tens seen-rows seen-tens)
+            (all-told (reader .teams) seen tens-beside rows tens seen-rows seen-tens)
 
         text-fits : length (textOf seen) + longest ≤ length out
         text-fits =
-            omega (arith, text-le (rows₁ ++ drop (8 * n) rows) (tens₁ ++ drop (20 * n) tens) 0 seen told, ran .count, count-le, lines-fit)
+            let l = rw (formers-off (reader .teams) seen) at (text-le (rows₁ ++ drop (8 * n) rows) (tens₁ ++ drop (20 * n) tens) 0 all told) in
+            omega (arith, l, formers-length (reader .teams) seen, events-le, lines-fit)
 
         module _ (at : ℕ) (out₁ : List ℕ) (p : PutsLines (rows₁ ++ drop (8 * n) rows) (tens₁ ++ drop (20 * n) tens) (m .count) out at out₁) where
           lines : PutsText out 0 (textOf seen) at out₁
-          lines = p seen (sym (ran .count)) (rows-enough .0) (rows-enough .1) told (omega (arith, count-le, lines-fit))
+          lines =
+              rw (formers-off (reader .teams) seen)
+              at (p all (formers-length (reader .teams) seen ∙ sym (ran .count)) (rows-enough .0) (rows-enough .1) told (omega (arith, ran .count, events-le, lines-fit)))
 
           pub last-fits : at + longest ≤ length out₁
           last-fits =
@@ -146,7 +159,7 @@ module _ (reader : Reader) (bytes : List ℕ) (input-ended : Bool) (rows tens : 
 
             pub turned : (ended : Bool) → ended ≡ ends (isShort bytes) (haltOf (m .stop)) (m .count)
                 → (w : Bool) → w ≡ wants (isShort bytes) (haltOf (m .stop))
-                → Turns bytes (turnRun (turnRoom rows tens out) reader bytes input-ended) rows tens out
+                → Turns bytes (teamTurnRun (turnRoom rows tens out) reader bytes input-ended) (reader .teams) rows tens out
                 (record { reader = m .reader; used = m .used; filled = filled; ended = ended; wants = w })
                 (rows₁ ++ drop (8 * n) rows) (tens₁ ++ drop (20 * n) tens) out₂
             turned ended x w y =

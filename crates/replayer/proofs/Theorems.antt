@@ -5,8 +5,9 @@ use Rattle.windows.proofs.Wants as wants
 use Rattle.windows.proofs.Bound.{turns-print}
 use Rattle.windows.proofs.EnoughTurns as turns
 use Rattle.windows.proofs.Rounds.{rounds-print}
+use Rattle.windows.proofs.Teams as teams
 use Rattle.replayer.specs.Replay.{asText}
-use Rattle.replayer.specs.Laws.{TurnsPrintText, WantsAtMore, EnoughTurns, RoundsPrintText}
+use Rattle.replayer.specs.Laws.{TurnsPrintText, WantsAtMore, EnoughTurns, TurnsWithTeams, RoundsPrintText}
 
 pub turns-print-text : TurnsPrintText
 turns-print-text = turns-print asText
@@ -16,6 +17,9 @@ wants-at-more = wants.wants-at-more
 
 pub enough-turns : EnoughTurns
 enough-turns = turns.enough-turns
+
+pub turns-with-teams : TurnsWithTeams
+turns-with-teams = teams.turns-with-teams
 
 pub rounds-print-text : RoundsPrintText
 rounds-print-text v k n = rounds-print asText v k (λ (hand : List ℕ). n)

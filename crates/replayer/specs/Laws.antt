@@ -32,6 +32,10 @@ WantsAtMore = turns.WantsAtMore
 abbrev pub EnoughTurns : Type 0
 EnoughTurns = turns.EnoughTurns
 
+-- teams that are not refused 17, as those of an empty reader, change nothing of a turn
+abbrev pub TurnsWithTeams : Type 0
+TurnsWithTeams = turns.TurnsWithTeams
+
 -- so many rounds at most, each with room for one event and n more: a turn, its text, and a read if it wants one
 abbrev pub roundsText : ℕ → ℕ → Reader → Input → List ℕ
 roundsText k n r i = roundsBy asText k (λ (hand : List ℕ). n) r i

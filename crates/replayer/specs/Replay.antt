@@ -6,7 +6,9 @@ use mathlib.Core.List.{List, [], _∷_, _++_}
 use lib.ListN.{length, drop}
 use lib.IntN.{ℤ, pos}
 use Rattle.kinds.specs.declared.Version.{Version}
-use Rattle.state.specs.declared.Reader.{Reader}
+use Rattle.teams.specs.Teams.{teamReader}
+use Rattle.teams.specs.declared.TeamReader.{TeamReader}
+use Rattle.team_calls.specs.Lists.{teamsOver, withFormers}
 use Rattle.rows.specs.Rows.{rowsFrom, tensFrom, room}
 use Rattle.calls.specs.Along.{Halt, Run}
 use Rattle.lines.specs.Lines.{lineOf, lastLine, plainLine, refusedWord, longest}
@@ -44,18 +46,18 @@ abbrev pub turnRoom : List ℤ → List ℤ → List ℕ → ℕ
 turnRoom rows tens out = min (room rows tens) ((length out - longest) / longest)
 
 -- where there is no room for an event
-abbrev pub noTurn : Reader → Turned
+abbrev pub noTurn : TeamReader → Turned
 noTurn r = record { reader = r; used = 0; filled = 0; ended = false; wants = false }
 
--- the turn is a run's on bytes at hand: its text stands in front of the target, and the rest of the target stays; the rows and the tens
--- are the run's
-pub record Turns (bytes : List ℕ) (run : Run) (rows₀ tens₀ : List ℤ) (out₀ : List ℕ) (r : Turned) (rows₁ tens₁ : List ℤ) (out₁ : List ℕ)
+-- the turn is a run's on bytes at hand, with the teams t₀ before it: its text stands in front of the target, and the rest of the target
+-- stays; the rows and the tens are the run's
+pub record Turns (bytes : List ℕ) (run : Run) (t₀ rows₀ tens₀ : List ℤ) (out₀ : List ℕ) (r : Turned) (rows₁ tens₁ : List ℤ) (out₁ : List ℕ)
     : Type 0 where
-  pub left : r .reader ≡ run .reader
+  pub left : r .reader ≡ teamReader (run .reader) (teamsOver t₀ (run .seen))
   pub used : r .used ≡ run .used
   pub filled : r .filled ≡ length (runText (isShort bytes) run)
   pub ended : r .ended ≡ ends (isShort bytes) (run .halt) (length (run .seen))
   pub wants : r .wants ≡ wants (isShort bytes) (run .halt)
   pub out : out₁ ≡ runText (isShort bytes) run ++ drop (length (runText (isShort bytes) run)) out₀
-  pub rows : rows₁ ≡ rowsFrom 0 (run .seen) rows₀
-  pub tens : tens₁ ≡ tensFrom 0 (run .seen) tens₀
+  pub rows : rows₁ ≡ rowsFrom 0 (withFormers t₀ (run .seen)) rows₀
+  pub tens : tens₁ ≡ tensFrom 0 (withFormers t₀ (run .seen)) tens₀

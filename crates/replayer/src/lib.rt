@@ -5,11 +5,11 @@ ghost use lib.ListN.{length};
 ghost use Rattle.lines.specs.Lines.{longest};
 ghost use Rattle.lines.specs.steps.Puts.{PutsText};
 ghost use Rattle.many.specs.Many.{haltOf};
-ghost use Rattle.windows.specs.Windows.{turnRun};
+ghost use Rattle.windows.specs.Windows.{teamTurnRun};
 ghost use Rattle.replayer.specs.Replay.{endingOf, turnRoom, noTurn, Turns};
 use lines::Ending;
 use many::Stop;
-use state::Reader;
+use teams::TeamReader;
 
 const FULL: usize = 65536;
 
@@ -18,7 +18,7 @@ const LONGEST: usize = 138;
 // What a turn leaves: the reader, the bytes used, the bytes of text, whether the text ends with the last line, and whether nothing can follow
 // before more bytes are at hand or the input has ended.
 pub struct Turned {
-    pub reader: Reader,
+    pub reader: TeamReader,
     pub used: usize,
     pub filled: usize,
     pub ended: bool,
@@ -73,7 +73,7 @@ fn event_room(rows: usize, tens: usize, out: usize) -> usize
 }
 
 // Where there is no room for an event.
-fn no_turn(reader: Reader) -> Turned
+fn no_turn(reader: TeamReader) -> Turned
     ensures { λ r. ⌜ r ≡ noTurn reader ⌝ }
 {
     Turned {
@@ -88,14 +88,14 @@ fn no_turn(reader: Reader) -> Turned
 // Many reading calls on the window at the front of the bytes, as many as there is room for, and their lines into the target. The bytes
 // are those at hand from the reader's place on; where the input has ended, they are all that are left.
 pub fn turn(
-    reader: Reader,
+    reader: TeamReader,
     bytes: &[u8],
     ended: bool,
     rows: &mut [i32],
     tens: &mut [i32],
     out: &mut [u8],
 ) -> Turned
-    ensures { λ r. ⌜ Turns (now (bytes .entry)) (turnRun (turnRoom (now (rows .entry)) (now (tens .entry)) (now (out .entry))) reader (now (bytes .entry)) ended) (now (rows .entry)) (now (tens .entry)) (now (out .entry)) r (now (rows .exit)) (now (tens .exit)) (now (out .exit)) ⌝ }
+    ensures { λ r. ⌜ Turns (now (bytes .entry)) (teamTurnRun (turnRoom (now (rows .entry)) (now (tens .entry)) (now (out .entry))) reader (now (bytes .entry)) ended) (reader .teams) (now (rows .entry)) (now (tens .entry)) (now (out .entry)) r (now (rows .exit)) (now (tens .exit)) (now (out .exit)) ⌝ }
 {
     let n = event_room(rows.len(), tens.len(), out.len());
     if n == 0 {

@@ -5,6 +5,7 @@ ghost use mathlib.Core.Path.{_≡_};
 ghost use Prim.Native.Nat.{_<_};
 ghost use lib.ListN.{length};
 use back::Board;
+use back::TeamBoard;
 use feed::Hand;
 use going::GoAnswer;
 use going::LentGo;
@@ -22,7 +23,7 @@ use reel::Counts;
 use refusal::Refusal;
 use rewinding::Rewound;
 use state::Entries;
-use state::Reader;
+use teams::TeamReader;
 use varint::Wrote;
 
 // What the arguments say: whether they are good, the tick, how many events the rewind goes a call (0: all at once), and how many are read at
@@ -36,7 +37,7 @@ struct Wanted {
 
 // What the first turn begins with, and whether there is one.
 struct First {
-    reader: Reader,
+    reader: TeamReader,
     hand: Hand,
     goes: bool,
 }
@@ -171,14 +172,14 @@ fn less(a: usize, b: usize) -> usize {
 }
 
 fn print_rewound(rewound: Rewound) {
-    let mut text = [0u8; 23324];
+    let mut text = [0u8; 27036];
     let Wrote::Past(n) = board_lines::write_rewound(rewound, &mut text, 0) else {
         return;
     };
     print(&text, n);
 }
 
-// The text of a call, from what it answered and the entries that it left, and whether it was written.
+// The text of a call, from what it answered and the entries and teams that it left, and whether it was written.
 fn print_gone(
     went: LentGo,
     marks: [u8; 128],
@@ -186,20 +187,22 @@ fn print_gone(
     ys: [i32; 128],
     held: [u8; 128],
     inputs: [i32; 1280],
+    teams: [i32; 256],
 ) -> bool {
     let answer = went.answer;
     let tick = went.tick;
-    let board = Board {
-        tick,
-        entries: Entries {
-            marks,
-            xs,
-            ys,
-            held,
-            inputs,
-        },
+    let entries = Entries {
+        marks,
+        xs,
+        ys,
+        held,
+        inputs,
     };
-    let mut text = [0u8; 23324];
+    let board = TeamBoard {
+        board: Board { tick, entries },
+        teams,
+    };
+    let mut text = [0u8; 27036];
     let Wrote::Past(n) = board_lines::write_gone(answer, board, &mut text, 0) else {
         return false;
     };
@@ -219,12 +222,15 @@ fn is_over(went: LentGo) -> bool {
 // than a TickStart.
 fn go_all(
     first: LentGo,
-    entries: Entries,
+    copy: TeamBoard,
     rows: &[i32; 5120],
     tens: &[i32; 5120],
     formers: &[i32; 5120],
     step: usize,
 ) {
+    let mut teams = copy.teams;
+    let board = copy.board;
+    let entries = board.entries;
     let mut marks = entries.marks;
     let mut xs = entries.xs;
     let mut ys = entries.ys;
@@ -240,19 +246,21 @@ fn go_all(
             &mut ys,
             &mut held,
             &mut inputs,
+            &mut teams,
             rows,
             tens,
             formers,
             step,
         );
-        let printed = print_gone(went, marks, xs, ys, held, inputs);
+        let printed = print_gone(went, marks, xs, ys, held, inputs, teams);
         calls = fewer(calls, goes_on(is_over(went), !printed));
     }
 }
 
 // What stands before the first call.
 fn before(started: LentStart, counts: Counts) -> LentGo {
-    let board = started.board;
+    let copy = started.board;
+    let board = copy.board;
     let tick = board.tick;
     let progress = started.progress;
     LentGo {
@@ -266,7 +274,7 @@ fn before(started: LentStart, counts: Counts) -> LentGo {
 // The rewind on a reel of its own, so many events a call.
 fn rewind_by(
     wanted: Wanted,
-    reader: Reader,
+    reader: TeamReader,
     counts: Counts,
     rows: &[i32; 5120],
     inputs: &[i32; 5120],
@@ -287,12 +295,11 @@ fn rewind_by(
         &mut own_formers,
     );
     let answer = started.answer;
-    let board = started.board;
-    let entries = board.entries;
+    let copy = started.board;
     match answer {
         StartAnswer::Started => go_all(
             before(started, counts),
-            entries,
+            copy,
             &own_rows,
             &own_inputs,
             &own_formers,
@@ -305,7 +312,7 @@ fn rewind_by(
 // The rewind, all at once or so many events a call.
 fn rewind_to(
     wanted: Wanted,
-    reader: Reader,
+    reader: TeamReader,
     counts: Counts,
     rows: &[i32; 5120],
     inputs: &[i32; 5120],
@@ -372,7 +379,7 @@ fn number(b: u8) -> i32 {
 
 fn first_of(version: Version, hand: Hand, goes: bool) -> First {
     First {
-        reader: Reader::empty(version),
+        reader: TeamReader::empty(version),
         hand: feed::pass(hand, 1),
         goes,
     }

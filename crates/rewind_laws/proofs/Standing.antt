@@ -4,9 +4,10 @@ use mathlib.Core.Bool.{Bool, true, false, false≢true, _||_}
 use mathlib.Core.List.{List, [], _∷_, _++_, append-assoc, append-nil}
 use Prim.Native.Nat.{ℕ}
 use Rattle.item.specs.Said.{Said, gives, more, finish, refuses}
-use Rattle.state.specs.State.{Memory, withEntries, goodReader}
+use Rattle.kinds.specs.declared.Version.{Version}
+use Rattle.state.specs.State.{Memory, withEntries, emptyReader}
 use Rattle.state.specs.Reading.{Event, Step, isClosed, readCall, readerAfter}
-use Rattle.state.specs.Laws.{Sound, SaidLeaves}
+use Rattle.state.specs.Laws.{SaidLeaves}
 use Rattle.state.specs.Acts.{Act, ReadAct}
 use Rattle.state.specs.Acts as act
 use Rattle.state.specs.steps.Parts.{memoryOf}
@@ -15,28 +16,32 @@ use Rattle.state.specs.declared.Standing.the-variants as standings
 use Rattle.state.specs.declared.Scalars.{Scalars}
 use Rattle.state.specs.declared.Entries.{Entries}
 use Rattle.state.specs.declared.Reader.{Reader}
-use Rattle.state.proofs.Theorems.{open-call-keeps, readers-stay-sound}
 use Rattle.state.proofs.Acts.{read-acts}
 use Rattle.state.proofs.Calls.{keeps}
-use Rattle.calls.specs.Calls.{Call, call, next, Seen, after, events, eventOf}
-use Rattle.calls.proofs.Rise.{lists-keep}
+use Rattle.teams.specs.Teams.{noTeams, teamReader, emptyTeamReader}
+use Rattle.teams.specs.declared.TeamReader.{TeamReader}
+use Rattle.teams.proofs.Theorems.{no-teams-sound}
+use Rattle.calls.specs.Calls.{Call, call, next, after}
+use Rattle.team_calls.specs.Lists.{TeamSeen, nextTeam, teamEventOf, teamAfter, teamEvents}
+use Rattle.team_calls.specs.Laws.{SoundTeamReader}
+use Rattle.team_calls.proofs.Theorems.{teams-above, reached-teams-sound}
 use Rattle.demand.specs.Events.{is13, meets13}
+use Rattle.demand.specs.TeamEvents.{teamMeets13}
+use Rattle.demand.proofs.Theorem.{team-after-append, meets-same}
 use Rattle.rewinding.specs.Rewinding.{closedByRefusal}
 
 -- ---- lists of calls
 
-pub after-append : (r : Reader) (a b : List Call) → after r (a ++ b) ≡ after (after r a) b
-unfolding after
-after-append r [] b = refl
-after-append r (c ∷ a) b = after-append (next r c) a b
+pub events-append : (r : TeamReader) (a b : List Call) → teamEvents r (a ++ b) ≡ teamEvents (teamAfter r a) b ++ teamEvents r a
+unfolding teamAfter teamEvents
+events-append r [] b = sym (append-nil (teamEvents r b))
+events-append r (c ∷ a) b =
+    ap (λ (l : List TeamSeen). l ++ teamEventOf r c) (events-append (nextTeam r c) a b)
+    ∙ append-assoc (teamEvents (teamAfter (nextTeam r c) a) b) (teamEvents (nextTeam r c) a) (teamEventOf r c)
 
-pub events-append : (r : Reader) (a b : List Call) → events r (a ++ b) ≡ events (after r a) b ++ events r a
-unfolding after events
-events-append r [] b = sym (append-nil (events r b))
-events-append r (c ∷ a) b = ap (λ (l : List Seen). l ++ eventOf r c) (events-append (next r c) a b) ∙ append-assoc (events (after (next r c) a) b) (events (next r c) a) (eventOf r c)
-
-pub after-sound : (cs : List Call) {r : Reader} → Sound r → Sound (after r cs)
-after-sound cs {r} s = lists-keep Sound (λ q c. readers-stay-sound q (c .window) (c .last)) r cs s
+-- by calls from an empty reader, cut anywhere
+pub cut-sound : (v : Version) (before since : List Call) → SoundTeamReader (teamAfter (teamAfter (emptyTeamReader v) before) since)
+cut-sound v before since = subst SoundTeamReader (team-after-append (emptyTeamReader v) before since) (reached-teams-sound v (before ++ since))
 
 -- ---- one call
 
@@ -86,7 +91,16 @@ quiet-from true r c cs e h q =
     absurd (false≢true (sym h ∙ ap (λ (x : Reader). closedByRefusal (x .scalars .standing)) (stuck cs closed) ∙ closed))
 quiet-from false r c cs e h q = q
 
-pub quiet : (cs : List Call) (r : Reader) → closedByRefusal (after r cs .scalars .standing) ≡ false → meets13 r cs ≡ false
+quiet : (cs : List Call) (r : Reader) → closedByRefusal (after r cs .scalars .standing) ≡ false → meets13 r cs ≡ false
 unfolding after meets13
 quiet [] r h = refl
 quiet (c ∷ cs) r h = quiet-from (is13 (call r c .said)) r c cs refl h (quiet cs (next r c) h)
+
+-- the same of calls with teams from an empty reader
+pub cut-quiet : (v : Version) (cs : List Call) → closedByRefusal (teamAfter (emptyTeamReader v) cs .reader .scalars .standing) ≡ false
+    → teamMeets13 (emptyTeamReader v) cs ≡ false
+unfolding emptyTeamReader
+cut-quiet v cs h =
+    let r = teamReader (emptyReader v) noTeams in
+    meets-same cs r no-teams-sound
+    ∙ quiet cs (emptyReader v) (ap (λ (x : TeamReader). closedByRefusal (x .reader .scalars .standing)) (sym (teams-above r cs no-teams-sound .left)) ∙ h)

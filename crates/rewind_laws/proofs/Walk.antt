@@ -10,6 +10,8 @@ use lib.IntN.{ℤ}
 use borrow.Author.Tests.{ltb-true, ltb-false, lt-ltb, le-ltb}
 use Rattle.refusal.specs.declared.Refusal.{Refusal}
 use Rattle.refusal.specs.declared.Refusal.the-variants.{BadState}
+use Rattle.packer.specs.declared.Part.{Part}
+use Rattle.item.specs.Records.{Content}
 use Rattle.state.specs.Reading.{
   Event,
   tickStart,
@@ -20,15 +22,14 @@ use Rattle.state.specs.Reading.{
   input,
   other,
 }
-use Rattle.state.specs.declared.Entries.{Entries}
-use Rattle.calls.specs.Calls.{Seen}
-use Rattle.back.specs.Board.{goodBoard}
-use Rattle.back.specs.Back.{Back, was, refused, takeOff, stepBack}
-use Rattle.back.specs.Undo.{undoOf, undone}
-use Rattle.back.specs.declared.BoardTick.{BoardTick}
-use Rattle.back.specs.declared.Board.{Board}
-use Rattle.taking.specs.Taking.{Taken, takenFrom}
-use Rattle.demand.specs.Events.{backOne, backOver}
+use Rattle.teams.specs.Teams.{Joining, joins, nobody, joiningIn}
+use Rattle.teams.specs.declared.Team.{Team}
+use Rattle.team_calls.specs.Lists.{TeamSeen}
+use Rattle.back.specs.TeamBoard.{TeamBack, was, refused, goodTeamBoard, takeOffTeam, teamStepBack}
+use Rattle.back.specs.Undo.{undoOf, undoJoining, undone, formerIn}
+use Rattle.back.specs.declared.TeamBoard.{TeamBoard}
+use Rattle.back.proofs.Teams.{team-undone}
+use Rattle.demand.specs.TeamEvents.{teamBackOne, teamBackOver}
 use Rattle.reel.specs.Reel.{Row, ofInput}
 use Rattle.reeling.specs.Laws.{rowOf}
 use Rattle.rewinding.specs.Rewinding.{isStart, Newer, newer, gone, oneNewer, newerThan, backRow, stepOver}
@@ -89,49 +90,59 @@ newer-append t (x ∷ xs) ys = rw (newer-append t xs ys) (older-cons (isStart t 
 
 -- ---- stepping over the rows of events is stepping back over the events
 
-row-back : (e : Event) (ten former : List ℤ) (k : BoardTick) (m : Entries)
-    → takeOff (undone (undoOf e)) (ofInput (undoOf e) ten []) (ofInput (undoOf e) former []) k m ≡ takeOff e ten former k m
-row-back (tickStart t) ten former k m = refl
-row-back (tickEnd t) ten former k m = refl
-row-back (playerNew c x y) ten former k m = refl
-row-back (playerChange c x y old-x old-y) ten former k m = refl
-row-back (playerOld c x y) ten former k m = refl
-row-back (input c had) ten former k m = refl
-row-back (other r) ten former k m = refl
+-- of a record the ten numbers are not looked at
+record-back : (r : Content Part) (ten former : List ℤ) (m : Team) (b : TeamBoard) (j : Joining) → joiningIn r ≡ j
+    → takeOffTeam (undone (undoOf (other r) m)) (ofInput (undoOf (other r) m) ten []) (ofInput (undoOf (other r) m) former []) (formerIn (undoOf (other r) m)) b
+    ≡ takeOffTeam (undone (undoOf (other r) m)) ten former (formerIn (undoOf (other r) m)) b
+unfolding takeOffTeam
+record-back r ten former m b (joins c n) q = rw q
+record-back r ten former m b nobody q = rw q
 
-abbrev isWas : Back → Bool
+row-back : (e : Event) (ten former : List ℤ) (m : Team) (b : TeamBoard)
+    → takeOffTeam (undone (undoOf e m)) (ofInput (undoOf e m) ten []) (ofInput (undoOf e m) former []) (formerIn (undoOf e m)) b
+    ≡ takeOffTeam e ten former m b
+unfolding takeOffTeam
+row-back (tickStart t) ten former m b = refl
+row-back (tickEnd t) ten former m b = refl
+row-back (playerNew c x y) ten former m b = refl
+row-back (playerChange c x y old-x old-y) ten former m b = refl
+row-back (playerOld c x y) ten former m b = refl
+row-back (input c had) ten former m b = refl
+row-back (other r) ten former m b = record-back r ten former m b (joiningIn r) refl ∙ team-undone (other r) ten former m b
+
+abbrev isWas : TeamBack → Bool
 isWas (was b) = true
 isWas (refused r) = false
 
-pub differ : {r : Refusal} {a : Board} → refused r ≡ was a → ⊥
+pub differ : {r : Refusal} {a : TeamBoard} → refused r ≡ was a → ⊥
 differ e = false≢true (ap isWas e)
 
-fitted : (b : Board) (e : Event) (ten former : List ℤ) (g : Bool) {a : Board} → cond g (takeOff e ten former (b .tick) (b .entries)) (refused BadState) ≡ was a
-    → takeOff e ten former (b .tick) (b .entries) ≡ was a
-fitted b e ten former true q = q
-fitted b e ten former false q = absurd (differ q)
+fitted : (b : TeamBoard) (e : Event) (ten former : List ℤ) (m : Team) (g : Bool) {a : TeamBoard}
+    → cond g (takeOffTeam e ten former m b) (refused BadState) ≡ was a → takeOffTeam e ten former m b ≡ was a
+fitted b e ten former m true q = q
+fitted b e ten former m false q = absurd (differ q)
 
-stays-refused : (l : List Seen) (r : Refusal) → backOver (refused r) l ≡ refused r
-unfolding backOver
+stays-refused : (l : List TeamSeen) (r : Refusal) → teamBackOver (refused r) l ≡ refused r
+unfolding teamBackOver
 stays-refused [] r = refl
 stays-refused (s ∷ l) r = stays-refused l r
 
 -- one event that fitted, then the others
-fits-then : (x : Seen) (l : List Seen) (b a : Board) → stepBack b (x .event) (x .ten) (x .former) ≡ was a
+fits-then : (x : TeamSeen) (l : List TeamSeen) (b a : TeamBoard) → teamStepBack b (x .seen .event) (x .seen .ten) (x .seen .former) (x .team) ≡ was a
     → stepOver (map rowOf (x ∷ l)) b ≡ stepOver (map rowOf l) a
-unfolding stepOver stepBack
+unfolding stepOver teamStepBack
 fits-then x l b a q =
-    rw (row-back (x .event) (x .ten) (x .former) (b .tick) (b .entries), fitted b (x .event) (x .ten) (x .former) (goodBoard b) q)
+    rw (row-back (x .seen .event) (x .seen .ten) (x .seen .former) (x .team) b, fitted b (x .seen .event) (x .seen .ten) (x .seen .former) (x .team) (goodTeamBoard b) q)
 
-abbrev Over : List Seen → Board → Board → Type 0
+abbrev Over : List TeamSeen → TeamBoard → TeamBoard → Type 0
 Over l b a = stepOver (map rowOf l) b ≡ record { fits = true; board = a }
 
-over-by : (x : Seen) (l : List Seen) (b a : Board) (s : Back) → stepBack b (x .event) (x .ten) (x .former) ≡ s → backOver s l ≡ was a
-    → ((k : Board) → backOver (was k) l ≡ was a → Over l k a) → Over (x ∷ l) b a
+over-by : (x : TeamSeen) (l : List TeamSeen) (b a : TeamBoard) (s : TeamBack) → teamStepBack b (x .seen .event) (x .seen .ten) (x .seen .former) (x .team) ≡ s → teamBackOver s l ≡ was a
+    → ((k : TeamBoard) → teamBackOver (was k) l ≡ was a → Over l k a) → Over (x ∷ l) b a
 over-by x l b a (was k) q e rest = fits-then x l b k q ∙ rest k e
 over-by x l b a (refused r) q e rest = absurd (differ (sym (stays-refused l r) ∙ e))
 
-pub over-back : (l : List Seen) (b a : Board) → backOver (was b) l ≡ was a → Over l b a
-unfolding backOver stepOver
+pub over-back : (l : List TeamSeen) (b a : TeamBoard) → teamBackOver (was b) l ≡ was a → Over l b a
+unfolding teamBackOver stepOver
 over-back [] b a e = let q : b ≡ a = cc in rw q
-over-back (x ∷ l) b a e = over-by x l b a (stepBack b (x .event) (x .ten) (x .former)) refl e (λ k. over-back l k a)
+over-back (x ∷ l) b a e = over-by x l b a (teamStepBack b (x .seen .event) (x .seen .ten) (x .seen .former) (x .team)) refl e (λ k. over-back l k a)

@@ -7,9 +7,10 @@ use lib.IntN.{ℤ}
 use Rattle.refusal.specs.declared.Refusal.{Refusal}
 use Rattle.kinds.specs.declared.Version.{Version}
 use Rattle.state.specs.declared.Entries.{Entries}
-use Rattle.state.specs.declared.Reader.{Reader}
-use Rattle.back.specs.Board.{boardOf}
-use Rattle.back.specs.declared.Board.{Board}
+use Rattle.teams.specs.Teams.{noTeams}
+use Rattle.teams.specs.declared.TeamReader.{TeamReader}
+use Rattle.back.specs.TeamBoard.{teamBoardOf}
+use Rattle.back.specs.declared.TeamBoard.{TeamBoard}
 use Rattle.reel.specs.Reel.{reelOf}
 use Rattle.reel.specs.declared.Reel.{Reel}
 use Rattle.reeling.specs.Reeling.{KeptIs}
@@ -22,8 +23,8 @@ use Rattle.rewind_linked.specs.UnderWay.{threeWith, twoWith, startIn, St
 use Rattle.rewind_linked.specs.steps.Starting.{Begins, noBegin}
 use Rattle.rewind_linked.specs.declared.Begun.{Begun}
 
-module _ (r : Reader) (l : Reel) (t : ℤ) where
-  pub found : (n : ℕ) → soughtIn r l t ≡ soughts.Newer n → (b : Board) → b ≡ boardOf r
+module _ (r : TeamReader) (l : Reel) (t : ℤ) where
+  pub found : (n : ℕ) → soughtIn r l t ≡ soughts.Newer n → (b : TeamBoard) → b ≡ teamBoardOf r
       → Begins (startRewind r l t) (record { number = 0; board = b; newer = n })
   unfolding startRewind
   found n e b f = rw e (record { number = refl; board = f; newer = refl; fits = refl })
@@ -35,19 +36,20 @@ module _ (r : Reader) (l : Reel) (t : ℤ) where
 module _ (v : Version) (body : List ℕ) (t : ℤ) (rows inputs formers : List ℤ) where
   -- reading answered read and left a reel; a start on it handed out b
   pub starts : (read : ReelRead) (rows₁ inputs₁ formers₁ : List ℤ)
-      → KeptIs (bodyRun v body) (noRows rows inputs formers) read (reelOf (read .counts) rows₁ inputs₁ formers₁)
+      → KeptIs (bodyRun v body) noTeams (noRows rows inputs formers) read (reelOf (read .counts) rows₁ inputs₁ formers₁)
       → (u : ℤ) → u ≡ t → (b : Begun) → Begins (startRewind (read .reader) (reelOf (read .counts) rows₁ inputs₁ formers₁) u) b
       → (three₀ three₁ : List ℕ) → three₁ ≡ threeWith three₀ (read .counts) (b .newer)
-      → (two₀ two₁ : List ℤ) → two₁ ≡ twoWith two₀ (b .board .tick) false
-      → (e : Entries) → e ≡ b .board .entries
-      → StartsRewind v body t rows inputs formers three₀ two₀ (b .number) rows₁ inputs₁ formers₁ e three₁ two₁
-  starts read rows₁ inputs₁ formers₁ kept u same b begun three₀ three₁ three two₀ two₁ two e entries =
+      → (two₀ two₁ : List ℤ) → two₁ ≡ twoWith two₀ (b .board .board .tick) false
+      → (e : Entries) → e ≡ b .board .board .entries → (m : List ℤ) → m ≡ b .board .teams
+      → StartsRewind v body t rows inputs formers three₀ two₀ (b .number) rows₁ inputs₁ formers₁ e m three₁ two₁
+  starts read rows₁ inputs₁ formers₁ kept u same b begun three₀ three₁ three two₀ two₁ two e entries m teams =
       let begins : Begins (startIn v body t rows inputs formers) b = rw (same, kept .left, kept .reel) at begun in
       record {
         counts = read .counts;
         reel = kept .reel;
         answer = begins .number;
-        copy = entries ∙ ap (λ (x : Board). x .entries) (begins .board);
+        copy = entries ∙ ap (λ (x : TeamBoard). x .board .entries) (begins .board);
+        teams = teams ∙ ap (λ (x : TeamBoard). x .teams) (begins .board);
         three = three ∙ ap (threeWith three₀ (read .counts)) (begins .newer);
-        two = two ∙ (λ k. twoWith two₀ (begins .board k .tick) (begins .fits k));
+        two = two ∙ (λ k. twoWith two₀ (begins .board k .board .tick) (begins .fits k));
       }

@@ -8,6 +8,8 @@ use Rattle.kinds.specs.declared.Version.{Version}
 use Rattle.state.specs.State.{emptyReader}
 use Rattle.state.specs.Reading.{isClosed}
 use Rattle.state.proofs.Theorems.{empty-sound}
+use Rattle.teams.specs.Teams.{noTeams, goodTeamReader, emptyTeamReader}
+use Rattle.teams.proofs.Theorems.{no-teams-sound}
 use Rattle.calls.specs.Along.{calls}
 use Rattle.many.specs.Many.{manyCalls}
 use Rattle.reeling.specs.Reeling.{keptCalls}
@@ -18,6 +20,10 @@ unfolding emptyReader
 empty-open v = refl
 
 pub read-whole : (v : Version) (rows inputs formers : List ℤ) (k : ℕ) (w : List ℕ) (last : Bool)
-    → keptCalls k (emptyReader v) (noRows rows inputs formers) w last ≡ calls k (emptyReader v) w last
-unfolding manyCalls
-read-whole v rows inputs formers k w last = rw (empty-sound v .good, empty-open v)
+    → keptCalls k (emptyTeamReader v) (noRows rows inputs formers) w last ≡ calls k (emptyReader v) w last
+unfolding manyCalls emptyTeamReader goodTeamReader
+read-whole v rows inputs formers k w last = rw (empty-sound v .good, no-teams-sound .good, empty-open v)
+
+pub empty-teams : (v : Version) → emptyTeamReader v .teams ≡ noTeams
+unfolding emptyTeamReader
+empty-teams v = refl

@@ -11,6 +11,7 @@ use Rattle.kinds.specs.declared.Version.{Version}
 use Rattle.state.specs.State.{sameInt}
 use Rattle.state.specs.declared.Entries.{Entries}
 use Rattle.back.specs.Board.{board}
+use Rattle.back.specs.TeamBoard.{teamBoard}
 use Rattle.back.specs.declared.BoardTick.{BoardTick}
 use Rattle.back.specs.declared.BoardTick.the-variants.{In, NoTick}
 use Rattle.reel.specs.Reel.{flag, countsOf, reelOf}
@@ -23,7 +24,7 @@ use Rattle.going.specs.declared.StartAnswer.the-variants as starts
 use Rattle.going.specs.declared.Start.{Start}
 use Rattle.going.specs.declared.GoAnswer.{GoAnswer}
 use Rattle.going.specs.declared.GoAnswer.the-variants as answers
-use Rattle.rewind_linked.specs.Linked.{bodyRun, noRows}
+use Rattle.rewind_linked.specs.Linked.{bodyEvents, bodyReader, noRows}
 
 -- ---- numbers for C and Rust programs
 
@@ -57,18 +58,19 @@ startNumber (starts.Refused r) = numberOf r
 
 -- a start after the body was read whole with a reel beside
 abbrev pub startIn : Version → List ℕ → ℤ → List ℤ → List ℤ → List ℤ → Start
-startIn v body t rows inputs formers = let run = bodyRun v body in startRewind (run .reader) (keepAll (noRows rows inputs formers) (run .seen)) t
+startIn v body t rows inputs formers = startRewind (bodyReader v body) (keepAll (noRows rows inputs formers) (bodyEvents v body)) t
 
--- the answer's number, the entries of the copy and the numbers of the rewind. The reel and its counts are always what reading left: the rewind's own
--- once it is started; in a refusal, where the rewind is blank, they are that too
+-- the answer's number, the entries and teams of the copy and the numbers of the rewind. The reel and its counts are always what reading left: the
+-- rewind's own once it is started; in a refusal, where the rewind is blank, they are that too
 pub record StartsRewind (v : Version) (body : List ℕ) (t : ℤ) (rows₀ inputs₀ formers₀ : List ℤ) (three₀ : List ℕ) (two₀ : List ℤ) (r : ℕ)
-    (rows₁ inputs₁ formers₁ : List ℤ) (e : Entries) (three₁ : List ℕ) (two₁ : List ℤ) : Type 0 where
+    (rows₁ inputs₁ formers₁ : List ℤ) (e : Entries) (m : List ℤ) (three₁ : List ℕ) (two₁ : List ℤ) : Type 0 where
   pub counts : Counts
-  pub reel : reelOf counts rows₁ inputs₁ formers₁ ≡ keepAll (noRows rows₀ inputs₀ formers₀) (bodyRun v body .seen)
+  pub reel : reelOf counts rows₁ inputs₁ formers₁ ≡ keepAll (noRows rows₀ inputs₀ formers₀) (bodyEvents v body)
   pub answer : r ≡ startNumber (startIn v body t rows₀ inputs₀ formers₀ .answer)
-  pub copy : e ≡ startIn v body t rows₀ inputs₀ formers₀ .rewind .board .entries
+  pub copy : e ≡ startIn v body t rows₀ inputs₀ formers₀ .rewind .board .board .entries
+  pub teams : m ≡ startIn v body t rows₀ inputs₀ formers₀ .rewind .board .teams
   pub three : three₁ ≡ threeWith three₀ counts (startIn v body t rows₀ inputs₀ formers₀ .rewind .progress .newer)
-  pub two : let w = startIn v body t rows₀ inputs₀ formers₀ .rewind in two₁ ≡ twoWith two₀ (w .board .tick) (w .progress .misfit)
+  pub two : let w = startIn v body t rows₀ inputs₀ formers₀ .rewind in two₁ ≡ twoWith two₀ (w .board .board .tick) (w .progress .misfit)
 
 -- ---- going on
 
@@ -79,14 +81,16 @@ goNumber answers.Going = 255
 goNumber (answers.Refused r) = numberOf r
 
 -- the rewind to a tick that the arrays hold
-abbrev pub underWay : ℤ → List ℤ → List ℤ → List ℤ → Entries → List ℕ → List ℤ → Rewind
-underWay t rows inputs formers e three two =
-    rewindOf (board (tickIn (getD two 0 (pos 0))) e) (reelOf (countsOf (getD three 0 0) (getD three 1 0)) rows inputs formers)
+abbrev pub underWay : ℤ → List ℤ → List ℤ → List ℤ → Entries → List ℤ → List ℕ → List ℤ → Rewind
+underWay t rows inputs formers e m three two =
+    rewindOf (teamBoard (board (tickIn (getD two 0 (pos 0))) e) m) (reelOf (countsOf (getD three 0 0) (getD three 1 0)) rows inputs formers)
     (progressOf t (getD three 2 0) (flagIn (getD two 1 (pos 0))))
 
 -- what going on by so many events answers and leaves
-pub record GoesOn (w : Rewind) (events : ℕ) (three₀ : List ℕ) (two₀ : List ℤ) (r : ℕ) (e : Entries) (three₁ : List ℕ) (two₁ : List ℤ) : Type 0 where
+pub record GoesOn (w : Rewind) (events : ℕ) (three₀ : List ℕ) (two₀ : List ℤ) (r : ℕ) (e : Entries) (m : List ℤ) (three₁ : List ℕ) (two₁ : List ℤ)
+    : Type 0 where
   pub answer : r ≡ goNumber (goOn w events .answer)
-  pub copy : e ≡ goOn w events .rewind .board .entries
+  pub copy : e ≡ goOn w events .rewind .board .board .entries
+  pub teams : m ≡ goOn w events .rewind .board .teams
   pub three : let left = goOn w events .rewind in three₁ ≡ threeWith three₀ (left .reel .counts) (left .progress .newer)
-  pub two : let left = goOn w events .rewind in two₁ ≡ twoWith two₀ (left .board .tick) (left .progress .misfit)
+  pub two : let left = goOn w events .rewind in two₁ ≡ twoWith two₀ (left .board .board .tick) (left .progress .misfit)

@@ -4,6 +4,7 @@ ghost use mathlib.Core.List.{List};
 ghost use lib.IntN.{ℤ};
 ghost use Rattle.count.specs.Count.{versionIf};
 ghost use Rattle.state.specs.State.{entriesWith};
+ghost use Rattle.teams.specs.Teams.{noTeams};
 ghost use Rattle.reel.specs.Reel.{flag, reelOf};
 ghost use Rattle.reeling.specs.Reeling.{KeptIs};
 ghost use Rattle.going.specs.Going.{startRewind};
@@ -20,8 +21,8 @@ ghost use Rattle.rewind_linked.specs.UnderWay.{
   GoesOn,
 };
 ghost use Rattle.rewind_linked.specs.steps.Starting.{Begins, noBegin};
-use back::Board;
 use back::BoardTick;
+use back::TeamBoard;
 use going::GoAnswer;
 use going::Progress;
 use reel::Counts;
@@ -29,8 +30,7 @@ use reeling::ReelRead;
 use refusal::Refusal;
 use rewinding::RewindAnswer;
 use rewinding::Sought;
-use state::Entries;
-use state::Reader;
+use teams::TeamReader;
 
 // The body read whole, with an empty reel at its start.
 fn read_all(
@@ -41,12 +41,12 @@ fn read_all(
     formers: &mut [i32; 5120],
 ) -> ReelRead
     ensures { λ r. ⌜
-        KeptIs (bodyRun (versionIf second) (now (body .entry))) (noRows (now (rows .entry)) (now (inputs .entry)) (now (formers .entry))) r
+        KeptIs (bodyRun (versionIf second) (now (body .entry))) noTeams (noRows (now (rows .entry)) (now (inputs .entry)) (now (formers .entry))) r
         (reelOf (r .counts) (now (rows .exit)) (now (inputs .exit)) (now (formers .exit)))
         ⌝ }
 {
     reeling::read_kept(
-        Reader::empty(count::version_if(second)),
+        TeamReader::empty(count::version_if(second)),
         body,
         true,
         18446744073709551615,
@@ -89,31 +89,39 @@ fn answer_number(answer: RewindAnswer) -> u8
     }
 }
 
-// The entries of a copy, into five arrays.
-fn put_entries(
-    entries: Entries,
+// The entries and teams of a copy, into six arrays.
+fn put_copy(
+    copy: TeamBoard,
     marks: &mut [u8; 128],
     xs: &mut [i32; 128],
     ys: &mut [i32; 128],
     held: &mut [u8; 128],
     numbers: &mut [i32; 1280],
+    teams: &mut [i32; 256],
 )
-    ensures { λ _. ⌜ entriesWith (now (marks .exit)) (now (xs .exit)) (now (ys .exit)) (now (held .exit)) (now (numbers .exit)) ≡ entries ⌝ }
+    ensures { λ _. ⌜
+        (entriesWith (now (marks .exit)) (now (xs .exit)) (now (ys .exit)) (now (held .exit)) (now (numbers .exit)) ≡ copy .board .entries)
+        × (now (teams .exit) ≡ copy .teams)
+        ⌝ }
 {
+    let board = copy.board;
+    let entries = board.entries;
     let copy_marks = entries.marks;
     let copy_xs = entries.xs;
     let copy_ys = entries.ys;
     let copy_held = entries.held;
     let copy_inputs = entries.inputs;
+    let copy_teams = copy.teams;
     *marks = copy_marks;
     *xs = copy_xs;
     *ys = copy_ys;
     *held = copy_held;
     *numbers = copy_inputs;
+    *teams = copy_teams;
 }
 
 // Reads a body whole with a reel beside in arrays lent, and rewinds to a tick: 0, or the number of the refusal. The copy's entries are left in five
-// arrays.
+// arrays, its teams in a sixth.
 #[no_mangle]
 pub extern "C" fn jolzerv_rewind_body(
     second: bool,
@@ -127,20 +135,20 @@ pub extern "C" fn jolzerv_rewind_body(
     ys: &mut [i32; 128],
     held: &mut [u8; 128],
     numbers: &mut [i32; 1280],
+    teams: &mut [i32; 256],
 ) -> u8
     ensures { λ r. ⌜
         RewindsBody (versionIf second) (now (body .entry)) tick (now (rows .entry)) (now (inputs .entry)) (now (formers .entry)) r
         (now (rows .exit)) (now (inputs .exit)) (now (formers .exit))
-        (entriesWith (now (marks .exit)) (now (xs .exit)) (now (ys .exit)) (now (held .exit)) (now (numbers .exit)))
+        (entriesWith (now (marks .exit)) (now (xs .exit)) (now (ys .exit)) (now (held .exit)) (now (numbers .exit))) (now (teams .exit))
         ⌝ }
 {
     let read = read_all(second, body, rows, inputs, formers);
     let reader = read.reader;
     let counts = read.counts;
     let rewound = rewinding::rewind_lent(reader, counts, &*rows, &*inputs, &*formers, tick);
-    let board = rewound.board;
-    let entries = board.entries;
-    put_entries(entries, marks, xs, ys, held, numbers);
+    let copy = rewound.board;
+    put_copy(copy, marks, xs, ys, held, numbers, teams);
     let answer = rewound.answer;
     answer_number(answer)
 }
@@ -200,7 +208,7 @@ fn put_numbers(
 // The number of a start's answer, the copy, and how many rows are newer than the TickStart; in a refusal a blank board and 0.
 struct Begun {
     number: u8,
-    board: Board,
+    board: TeamBoard,
     newer: usize,
 }
 
@@ -215,13 +223,13 @@ fn refuse_start(why: Refusal) -> Begun
 }
 
 // A rewind on a reel that is its own from then on.
-fn begin(reader: Reader, counts: Counts, rows: &[i32; 5120], tick: i32) -> Begun
+fn begin(reader: TeamReader, counts: Counts, rows: &[i32; 5120], tick: i32) -> Begun
     ensures { λ r. ⌜ ((inputs formers : List ℤ) → Begins (startRewind reader (reelOf counts (now (rows .entry)) inputs formers) tick) r) ⌝ }
 {
     match rewinding::seek(reader, counts, rows, tick) {
         Sought::Newer(newer) => Begun {
             number: 0,
-            board: back::board_of(reader),
+            board: back::team_board_of(reader),
             newer,
         },
         Sought::Refused(why) => refuse_start(why),
@@ -229,7 +237,7 @@ fn begin(reader: Reader, counts: Counts, rows: &[i32; 5120], tick: i32) -> Begun
 }
 
 // Reads a body whole with a reel beside in arrays lent, and starts a rewind to a tick: 0, or the number of the refusal. The reel is the rewind's own.
-// The copy's entries are left in five arrays, the numbers of the rewind in two more; in a refusal the copy is blank.
+// The copy's entries are left in five arrays, its teams in a sixth, the numbers of the rewind in two more; in a refusal the copy is blank.
 #[no_mangle]
 pub extern "C" fn jolzerv_start_rewind(
     second: bool,
@@ -243,23 +251,24 @@ pub extern "C" fn jolzerv_start_rewind(
     ys: &mut [i32; 128],
     held: &mut [u8; 128],
     numbers: &mut [i32; 1280],
+    teams: &mut [i32; 256],
     three: &mut [usize; 3],
     two: &mut [i32; 2],
 ) -> u8
     ensures { λ r. ⌜
         StartsRewind (versionIf second) (now (body .entry)) tick (now (rows .entry)) (now (inputs .entry)) (now (formers .entry)) (now (three .entry)) (now (two .entry))
         r (now (rows .exit)) (now (inputs .exit)) (now (formers .exit))
-        (entriesWith (now (marks .exit)) (now (xs .exit)) (now (ys .exit)) (now (held .exit)) (now (numbers .exit))) (now (three .exit)) (now (two .exit))
+        (entriesWith (now (marks .exit)) (now (xs .exit)) (now (ys .exit)) (now (held .exit)) (now (numbers .exit))) (now (teams .exit)) (now (three .exit)) (now (two .exit))
         ⌝ }
 {
     let read = read_all(second, body, rows, inputs, formers);
     let reader = read.reader;
     let counts = read.counts;
     let begun = begin(reader, counts, &*rows, tick);
-    let board = begun.board;
+    let copy = begun.board;
+    let board = copy.board;
     let copy_tick = board.tick;
-    let entries = board.entries;
-    put_entries(entries, marks, xs, ys, held, numbers);
+    put_copy(copy, marks, xs, ys, held, numbers, teams);
     put_numbers(counts, begun.newer, copy_tick, false, three, two);
     begun.number
 }
@@ -287,14 +296,15 @@ pub extern "C" fn jolzerv_go_on(
     ys: &mut [i32; 128],
     held: &mut [u8; 128],
     numbers: &mut [i32; 1280],
+    teams: &mut [i32; 256],
     three: &mut [usize; 3],
     two: &mut [i32; 2],
 ) -> u8
     ensures { λ r. ⌜
         GoesOn (underWay tick (now (rows .entry)) (now (inputs .entry)) (now (formers .entry))
-        (entriesWith (now (marks .entry)) (now (xs .entry)) (now (ys .entry)) (now (held .entry)) (now (numbers .entry))) (now (three .entry)) (now (two .entry)))
+        (entriesWith (now (marks .entry)) (now (xs .entry)) (now (ys .entry)) (now (held .entry)) (now (numbers .entry))) (now (teams .entry)) (now (three .entry)) (now (two .entry)))
         events (now (three .entry)) (now (two .entry)) r
-        (entriesWith (now (marks .exit)) (now (xs .exit)) (now (ys .exit)) (now (held .exit)) (now (numbers .exit))) (now (three .exit)) (now (two .exit))
+        (entriesWith (now (marks .exit)) (now (xs .exit)) (now (ys .exit)) (now (held .exit)) (now (numbers .exit))) (now (teams .exit)) (now (three .exit)) (now (two .exit))
         ⌝ }
 {
     let next = three[0];
@@ -314,6 +324,7 @@ pub extern "C" fn jolzerv_go_on(
         ys,
         held,
         numbers,
+        teams,
         counts,
         rows,
         inputs,

@@ -4,7 +4,8 @@ use mathlib.Core.Path.{_≡_, _∙_, ap, subst}
 use mathlib.Core.Bool.{Bool, _||_}
 use mathlib.Core.List.{List}
 use lib.ListN.{length, take}
-use Rattle.state.specs.declared.Reader.{Reader}
+use lib.IntN.{ℤ}
+use Rattle.teams.specs.declared.TeamReader.{TeamReader}
 use Rattle.calls.specs.Along.{Halt, Run}
 use Rattle.many.specs.Many.{haltOf}
 use Rattle.windows.specs.Windows.{full, windowOf, isShort, isLastWindow, ends, wants}
@@ -22,10 +23,10 @@ abbrev turnBy : ReelRead → Bool → Bool → ReelTurn
 turnBy a over wanted = record { reader = a .reader; counts = a .counts; used = a .used; count = a .count; over = over; wants = wanted }
 
 -- by any run
-of-run : (bytes : List ℕ) (run : Run) (l₀ : Reel) (a : ReelRead) (l₁ : Reel) → KeptIs run l₀ a l₁
+of-run : (bytes : List ℕ) (run : Run) (t : List ℤ) (l₀ : Reel) (a : ReelRead) (l₁ : Reel) → KeptIs run t l₀ a l₁
     → (over : Bool) → over ≡ isOver (isShort bytes) (haltOf (a .stop)) (a .count)
-    → (wanted : Bool) → wanted ≡ wants (isShort bytes) (haltOf (a .stop)) → KeepsTurn bytes run l₀ (turnBy a over wanted) l₁
-of-run bytes run l₀ a l₁ k over o wanted w =
+    → (wanted : Bool) → wanted ≡ wants (isShort bytes) (haltOf (a .stop)) → KeepsTurn bytes run t l₀ (turnBy a over wanted) l₁
+of-run bytes run t l₀ a l₁ k over o wanted w =
     record {
       left = k .left;
       used = k .used;
@@ -38,11 +39,13 @@ of-run bytes run l₀ a l₁ k over o wanted w =
     }
 
 -- n is the end of the window, a what is read of it
-pub turned : (most : ℕ) (r : Reader) (l₀ : Reel) (bytes : List ℕ) (ended : Bool) (n : ℕ) → n ≡ min (length bytes) full
-    → (last : Bool) → last ≡ isLastWindow ended bytes → (a : ReelRead) (l₁ : Reel) → KeptIs (keptCalls most r l₀ (take n bytes) last) l₀ a l₁
+pub turned : (most : ℕ) (r : TeamReader) (l₀ : Reel) (bytes : List ℕ) (ended : Bool) (n : ℕ) → n ≡ min (length bytes) full
+    → (last : Bool) → last ≡ isLastWindow ended bytes
+    → (a : ReelRead) (l₁ : Reel) → KeptIs (keptCalls most r l₀ (take n bytes) last) (r .teams) l₀ a l₁
     → (over : Bool) → over ≡ isOver (isShort bytes) (haltOf (a .stop)) (a .count)
-    → (wanted : Bool) → wanted ≡ wants (isShort bytes) (haltOf (a .stop)) → KeepsTurn bytes (turnKept most r l₀ bytes ended) l₀ (turnBy a over wanted) l₁
+    → (wanted : Bool) → wanted ≡ wants (isShort bytes) (haltOf (a .stop))
+    → KeepsTurn bytes (turnKept most r l₀ bytes ended) (r .teams) l₀ (turnBy a over wanted) l₁
 turned most r l₀ bytes ended n e last f a l₁ k =
     let w : take n bytes ≡ windowOf bytes = ap (λ (m : ℕ). take m bytes) e ∙ take-least bytes full in
     let same : keptCalls most r l₀ (take n bytes) last ≡ turnKept most r l₀ bytes ended = λ i. keptCalls most r l₀ (w i) (f i) in
-    of-run bytes (turnKept most r l₀ bytes ended) l₀ a l₁ (subst (λ (x : Run). KeptIs x l₀ a l₁) same k)
+    of-run bytes (turnKept most r l₀ bytes ended) (r .teams) l₀ a l₁ (subst (λ (x : Run). KeptIs x (r .teams) l₀ a l₁) same k)

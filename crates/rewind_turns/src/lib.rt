@@ -8,14 +8,14 @@ ghost use Rattle.reel.specs.Reel.{reelOf};
 ghost use Rattle.rewind_turns.specs.Turns.{turnKept, hasAll, KeepsTurn};
 use many::Stop;
 use reel::Counts;
-use state::Reader;
+use teams::TeamReader;
 
 const FULL: usize = 65536;
 
 // What a turn leaves: the reader, the reel's counts, the bytes used, the number of events; whether nothing follows, and whether nothing can
 // follow before more bytes are at hand or the input has ended.
 pub struct ReelTurn {
-    pub reader: Reader,
+    pub reader: TeamReader,
     pub counts: Counts,
     pub used: usize,
     pub count: usize,
@@ -46,7 +46,7 @@ fn least(a: usize, b: usize) -> usize
 // Reading calls on the window at the front of the bytes until so many events came, each of which the reel keeps. The bytes are those at hand
 // from the reader's place on; where the input has ended, they are all that are left.
 pub fn turn(
-    reader: Reader,
+    reader: TeamReader,
     bytes: &[u8],
     ended: bool,
     most: usize,
@@ -56,7 +56,7 @@ pub fn turn(
     formers: &mut [i32; 5120],
 ) -> ReelTurn
     ensures { λ r. ⌜
-        KeepsTurn (now (bytes .entry)) (turnKept most reader (reelOf counts (now (rows .entry)) (now (inputs .entry)) (now (formers .entry))) (now (bytes .entry)) ended)
+        KeepsTurn (now (bytes .entry)) (turnKept most reader (reelOf counts (now (rows .entry)) (now (inputs .entry)) (now (formers .entry))) (now (bytes .entry)) ended) (reader .teams)
         (reelOf counts (now (rows .entry)) (now (inputs .entry)) (now (formers .entry))) r
         (reelOf (r .counts) (now (rows .exit)) (now (inputs .exit)) (now (formers .exit)))
         ⌝ }

@@ -2,7 +2,7 @@
 // three bytes, the low one first: the number of ticks in a byte, the ticks in four bytes each, the most events in four bytes (all ones: as many
 // as there are), a version byte, a body. Each tick is rewound to by the call on lent arrays, by the one by value and by those for C and Rust
 // programs, at once and under way; where they differ a line says so.
-use back::Board;
+use back::TeamBoard;
 use feed::Hand;
 use kinds::Version;
 use kinds::VersionOf;
@@ -14,7 +14,7 @@ use refusal::Refusal;
 use rewinding::RewindAnswer;
 use rewinding::Rewound;
 use state::Entries;
-use state::Reader;
+use teams::TeamReader;
 use texts::Text;
 use varint::Wrote;
 
@@ -28,7 +28,7 @@ fn print(text: Text) {
 }
 
 fn print_rewound(rewound: Rewound) {
-    let mut text = [0u8; 23324];
+    let mut text = [0u8; 27036];
     let Wrote::Past(n) = board_lines::write_rewound(rewound, &mut text, 0) else {
         return;
     };
@@ -65,7 +65,7 @@ fn come(hand: Hand, wants: bool, len: usize) -> Hand {
 
 // Reader and reel after a body, and how many events were read.
 struct Read {
-    reader: Reader,
+    reader: TeamReader,
     reel: Reel,
     events: usize,
 }
@@ -76,7 +76,7 @@ fn read_body(version: Version, body: &[u8], events: usize) -> Read {
     let mut inputs = [0i32; 5120];
     let mut formers = [0i32; 5120];
     let mut counts = Counts { next: 0, count: 0 };
-    let mut reader = Reader::empty(version);
+    let mut reader = TeamReader::empty(version);
     let mut hand = Hand::empty();
     let mut most = events;
     let mut turns: usize = 0;
@@ -122,11 +122,11 @@ fn number_of(answer: RewindAnswer) -> u8 {
 }
 
 fn same_answer(a: Rewound, b: Rewound) -> bool {
-    let one: Board = a.board;
-    let other: Board = b.board;
+    let one: TeamBoard = a.board;
+    let other: TeamBoard = b.board;
     let first = a.answer;
     let second = b.answer;
-    alike::same_board(one, other) & (number_of(first) == number_of(second))
+    team_alike::same_team_board(one, other) & (number_of(first) == number_of(second))
 }
 
 fn is_second(version: Version) -> bool {
@@ -153,6 +153,18 @@ fn same_read(version: Version, body: &[u8], counts: Counts, events: usize) -> bo
     (n == events) & (two[0] == counts.next) & (two[1] == counts.count)
 }
 
+// Whether a copy in arrays and a number are those of a rewind.
+fn same_copy(entries: Entries, teams: [i32; 256], number: u8, rewound: Rewound) -> bool {
+    let copy: TeamBoard = rewound.board;
+    let others = copy.teams;
+    let board = copy.board;
+    let other = board.entries;
+    let answer = rewound.answer;
+    alike::same_entries(entries, other)
+        & team_alike::same_teams(&teams, &others)
+        & (number == number_of(answer))
+}
+
 // Whether such a call that rewinds answers the same.
 fn same_linked(version: Version, body: &[u8], tick: i32, rewound: Rewound) -> bool {
     let mut rows = [0i32; 5120];
@@ -163,6 +175,7 @@ fn same_linked(version: Version, body: &[u8], tick: i32, rewound: Rewound) -> bo
     let mut ys = [2i32; 128];
     let mut held = [2u8; 128];
     let mut inputs = [2i32; 1280];
+    let mut teams = [2i32; 256];
     let number = rewind_linked::jolzerv_rewind_body(
         is_second(version),
         body,
@@ -175,6 +188,7 @@ fn same_linked(version: Version, body: &[u8], tick: i32, rewound: Rewound) -> bo
         &mut ys,
         &mut held,
         &mut inputs,
+        &mut teams,
     );
     let entries = Entries {
         marks,
@@ -183,10 +197,7 @@ fn same_linked(version: Version, body: &[u8], tick: i32, rewound: Rewound) -> bo
         held,
         inputs,
     };
-    let board: Board = rewound.board;
-    let other = board.entries;
-    let answer = rewound.answer;
-    alike::same_entries(entries, other) & (number == number_of(answer))
+    same_copy(entries, teams, number, rewound)
 }
 
 // Goes on by 7 events a call as long as the rewind is going, which 74 calls are enough for: the number of the last answer.
@@ -200,6 +211,7 @@ fn go_by_seven(
     ys: &mut [i32; 128],
     held: &mut [u8; 128],
     inputs: &mut [i32; 1280],
+    teams: &mut [i32; 256],
     three: &mut [usize; 3],
     two: &mut [i32; 2],
 ) -> u8 {
@@ -217,6 +229,7 @@ fn go_by_seven(
                 ys,
                 held,
                 inputs,
+                teams,
                 three,
                 two,
             );
@@ -235,6 +248,7 @@ fn under_way(
     ys: &mut [i32; 128],
     held: &mut [u8; 128],
     inputs: &mut [i32; 1280],
+    teams: &mut [i32; 256],
 ) -> u8 {
     let mut rows = [0i32; 5120];
     let mut tens = [0i32; 5120];
@@ -253,6 +267,7 @@ fn under_way(
         ys,
         held,
         inputs,
+        teams,
         &mut three,
         &mut two,
     );
@@ -269,6 +284,7 @@ fn under_way(
         ys,
         held,
         inputs,
+        teams,
         &mut three,
         &mut two,
     )
@@ -281,6 +297,7 @@ fn same_under_way(version: Version, body: &[u8], tick: i32, rewound: Rewound) ->
     let mut ys = [2i32; 128];
     let mut held = [2u8; 128];
     let mut inputs = [2i32; 1280];
+    let mut teams = [2i32; 256];
     let number = under_way(
         is_second(version),
         body,
@@ -290,6 +307,7 @@ fn same_under_way(version: Version, body: &[u8], tick: i32, rewound: Rewound) ->
         &mut ys,
         &mut held,
         &mut inputs,
+        &mut teams,
     );
     let entries = Entries {
         marks,
@@ -298,10 +316,7 @@ fn same_under_way(version: Version, body: &[u8], tick: i32, rewound: Rewound) ->
         held,
         inputs,
     };
-    let board: Board = rewound.board;
-    let other = board.entries;
-    let answer = rewound.answer;
-    alike::same_entries(entries, other) & (number == number_of(answer))
+    same_copy(entries, teams, number, rewound)
 }
 
 // The calls for C and Rust programs read a body whole, without a window: they are held to the turns on bodies that fit a window and are read to

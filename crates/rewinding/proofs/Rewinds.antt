@@ -9,12 +9,13 @@ use lib.IntN.{ℤ}
 use borrow.Author.Tests.{ltb-true, leb-true, not-true, not-false}
 use Rattle.refusal.specs.declared.Refusal.{Refusal}
 use Rattle.refusal.specs.declared.Refusal.the-variants.{BadState, Closed}
-use Rattle.state.specs.State.{goodReader}
-use Rattle.state.specs.declared.Reader.{Reader}
+use Rattle.state.specs.State.{goodScalars, goodEntries, goodReader}
 use Rattle.state.proofs.Every.{left-of, right-of}
-use Rattle.back.specs.Board.{boardOf}
-use Rattle.back.specs.Back.{refused}
-use Rattle.reel.specs.Reel.{goodReel, rowsBefore, rowsOf}
+use Rattle.teams.specs.Teams.{goodTeams, goodTeamReader}
+use Rattle.teams.specs.declared.TeamReader.{TeamReader}
+use Rattle.back.specs.TeamBoard.{teamBoardOf, refused}
+use Rattle.reel.specs.Reel.{goodCounts, goodReel, rowsBefore, rowsOf}
+use Rattle.reel.specs.declared.Counts.{Counts}
 use Rattle.reel.specs.declared.Reel.{Reel}
 use Rattle.reel.proofs.Ring.{rows-length, rows-taken}
 use Rattle.rewinding.specs.Rewinding.{Newer, newer, gone, newerThan, closedByRefusal, soughtOf, soughtIn, stepOver, copyOf, rewindTo}
@@ -23,16 +24,25 @@ use Rattle.rewinding.specs.declared.Sought.the-variants as soughts
 use Rattle.rewinding.proofs.Search.{found-below}
 
 -- the counts of a good reel
-pub good-room : (r : Reader) (l : Reel) → (goodReader r && goodReel l) ≡ true → (l .counts .next < 512) × (l .counts .count ≤ 512)
+pub good-room : (r : TeamReader) (l : Reel) → (goodTeamReader r && goodReel l) ≡ true → (l .counts .next < 512) × (l .counts .count ≤ 512)
 good-room r l good =
     let p = l .counts .next in
     let c = l .counts .count in
-    let e = right-of (goodReader r) (goodReel l) good in
+    let e = right-of (goodTeamReader r) (goodReel l) good in
     (ltb-true p 512 (left-of (ltb p 512) (leb c 512) e), leb-true c 512 (right-of (ltb p 512) (leb c 512) e))
 
 -- ---- seeking
 
-module _ (r : Reader) (l : Reel) (t : ℤ) (g : Bool) (good : g ≡ (goodReader r && goodReel l)) where
+-- the flag, from those of its parts
+pub tested : (r : TeamReader) (n : Counts) (s e p t q c g : Bool)
+    → s ≡ goodScalars (r .reader .scalars) → e ≡ goodEntries (r .reader .entries) → p ≡ (s && e)
+    → t ≡ goodTeams (r .teams) → q ≡ (p && t)
+    → c ≡ goodCounts n → g ≡ (q && c)
+    → g ≡ (goodTeamReader r && goodCounts n)
+unfolding goodTeamReader goodReader
+tested r n s e p t q c g es ee ep et eq ec eg = rw (eg, eq, ep, es, ee, et, ec)
+
+module _ (r : TeamReader) (l : Reel) (t : ℤ) (g : Bool) (good : g ≡ (goodTeamReader r && goodReel l)) where
   pub bad : not g ≡ true → soughts.Refused BadState ≡ soughtIn r l t
   unfolding soughtIn
   bad n = rw (← good, not-true g n)
@@ -40,7 +50,7 @@ module _ (r : Reader) (l : Reel) (t : ℤ) (g : Bool) (good : g ≡ (goodReader 
   pub in-room : not g ≡ false → (l .counts .next < 512) × (l .counts .count ≤ 512)
   in-room n = good-room r l (sym good ∙ not-false g n)
 
-  module _ (n : not g ≡ false) (k : Bool) (closed : k ≡ closedByRefusal (r .scalars .standing)) where
+  module _ (n : not g ≡ false) (k : Bool) (closed : k ≡ closedByRefusal (r .reader .scalars .standing)) where
     pub refused-reader : k ≡ true → soughts.Refused Closed ≡ soughtIn r l t
     unfolding soughtIn
     refused-reader q = rw (← good, not-false g n, ← closed, q)
@@ -56,11 +66,11 @@ abbrev isNewer : Sought → Bool
 isNewer (soughts.Newer n) = true
 isNewer (soughts.Refused why) = false
 
-module _ (r : Reader) (l : Reel) (t : ℤ) where
+module _ (r : TeamReader) (l : Reel) (t : ℤ) where
   -- it is found only of a good reader and reel
-  pub sought-newer : (n : ℕ) → soughtIn r l t ≡ soughts.Newer n → ((goodReader r && goodReel l) ≡ true) × (newerThan t (rowsOf l) ≡ newer n)
+  pub sought-newer : (n : ℕ) → soughtIn r l t ≡ soughts.Newer n → ((goodTeamReader r && goodReel l) ≡ true) × (newerThan t (rowsOf l) ≡ newer n)
   unfolding soughtIn
-  sought-newer n = by (goodReader r && goodReel l) (closedByRefusal (r .scalars .standing)) (newerThan t (rowsOf l))
+  sought-newer n = by (goodTeamReader r && goodReel l) (closedByRefusal (r .reader .scalars .standing)) (newerThan t (rowsOf l))
     where
       by : (g k : Bool) (x : Newer) → cond g (cond k (soughts.Refused Closed) (soughtOf x)) (soughts.Refused BadState) ≡ soughts.Newer n
           → (g ≡ true) × (x ≡ newer n)
@@ -73,7 +83,7 @@ module _ (r : Reader) (l : Reel) (t : ℤ) where
   unfolding rewindTo
   not-found why e = rw e
 
-  pub found : (n : ℕ) → soughtIn r l t ≡ soughts.Newer n → copyOf (stepOver (rowsBefore l n (l .counts .next)) (boardOf r)) ≡ rewindTo r l t
+  pub found : (n : ℕ) → soughtIn r l t ≡ soughts.Newer n → copyOf (stepOver (rowsBefore l n (l .counts .next)) (teamBoardOf r)) ≡ rewindTo r l t
   unfolding rewindTo
   found n e =
       let h : n ≤ l .counts .count = omega (arith, found-below t (rowsOf l) n (sym (sought-newer n e .1)), rows-length l) in

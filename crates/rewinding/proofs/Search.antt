@@ -7,7 +7,8 @@ use native.Mathlib.Omega.{arith}
 use lib.ListN.{length, getD}
 use lib.IntN.{ℤ, pos}
 use Rattle.state.specs.State.{sameInt, tenOf}
-use Rattle.back.specs.declared.Undo.the-variants.{Start, End, New, Change, Old, Input, Nothing}
+use Rattle.teams.specs.declared.Team.the-variants.{Number, NoTeam}
+use Rattle.back.specs.declared.Undo.the-variants.{Start, End, New, Change, Old, Input, Team, Nothing}
 use Rattle.reel.specs.Reel.{Row, noEvent, isNumber, undoIn, placeBefore, rowAt, rowsBefore, rowsOf}
 use Rattle.reel.specs.declared.Reel.{Reel}
 use Rattle.rewinding.specs.Rewinding.{isStart, Newer, newer, gone, oneNewer, newerThan}
@@ -16,7 +17,7 @@ use Rattle.rewinding.specs.Rewinding.{isStart, Newer, newer, gone, oneNe
 
 module _ (t a b c d e : ℤ) where
   -- by the tests of the kind, in their order
-  told : (k1 k2 k3 k4 k5 k6 k7 one none : Bool)
+  told : (k1 k2 k3 k4 k5 k6 k7 k8 one none had not : Bool)
       → (k1 && sameInt a t)
       ≡ isStart t
       (cond k1 (Start a)
@@ -24,17 +25,22 @@ module _ (t a b c d e : ℤ) where
       (cond k3 (New a b c)
       (cond k4 (Change a b c d e)
       (cond k5 (Old a b c)
-      (cond k6 (cond one (Input a true) (cond none (Input a false) noEvent)) (cond k7 Nothing noEvent)))))))
-  told true k2 k3 k4 k5 k6 k7 one none = refl
-  told false true k3 k4 k5 k6 k7 one none = refl
-  told false false true k4 k5 k6 k7 one none = refl
-  told false false false true k5 k6 k7 one none = refl
-  told false false false false true k6 k7 one none = refl
-  told false false false false false true k7 true none = refl
-  told false false false false false true k7 false true = refl
-  told false false false false false true k7 false false = refl
-  told false false false false false false true one none = refl
-  told false false false false false false false one none = refl
+      (cond k6 (cond one (Input a true) (cond none (Input a false) noEvent))
+      (cond k7 Nothing
+      (cond k8 (cond had (Team a b (Number d)) (cond not (Team a b NoTeam) noEvent)) noEvent))))))))
+  told true k2 k3 k4 k5 k6 k7 k8 one none had not = refl
+  told false true k3 k4 k5 k6 k7 k8 one none had not = refl
+  told false false true k4 k5 k6 k7 k8 one none had not = refl
+  told false false false true k5 k6 k7 k8 one none had not = refl
+  told false false false false true k6 k7 k8 one none had not = refl
+  told false false false false false true k7 k8 true none had not = refl
+  told false false false false false true k7 k8 false true had not = refl
+  told false false false false false true k7 k8 false false had not = refl
+  told false false false false false false true k8 one none had not = refl
+  told false false false false false false false true one none true not = refl
+  told false false false false false false false true one none false true = refl
+  told false false false false false false false true one none false false = refl
+  told false false false false false false false false one none had not = refl
 
 module _ (t : ℤ) where
   numbers : (ns : List ℤ) → (sameInt (getD ns 0 (pos 0)) (pos 1) && sameInt (getD ns 1 (pos 0)) t) ≡ isStart t (undoIn ns)
@@ -42,7 +48,8 @@ module _ (t : ℤ) where
   numbers ns =
       let n : ℕ → ℤ = λ i. getD ns i (pos 0) in
       let is : ℕ → Bool = λ k. isNumber k (n 0) in
-      told t (n 1) (n 2) (n 3) (n 4) (n 5) (is 1) (is 2) (is 3) (is 4) (is 5) (is 6) (is 7) (isNumber 1 (n 2)) (isNumber 0 (n 2))
+      told t (n 1) (n 2) (n 3) (n 4) (n 5) (is 1) (is 2) (is 3) (is 4) (is 5) (is 6) (is 7) (is 8)
+      (isNumber 1 (n 2)) (isNumber 0 (n 2)) (isNumber 1 (n 3)) (isNumber 0 (n 3))
 
   pub start-at : (l : List ℤ) (p z : ℕ) → z ≡ 10 * p + 0
       → (sameInt (getD l z (pos 0)) (pos 1) && sameInt (getD l (10 * p + 1) (pos 0)) t) ≡ isStart t (undoIn (tenOf l p))

@@ -7,20 +7,21 @@ ghost use lib.Dec.{ltb};
 ghost use lib.IntN.{ℤ};
 ghost use Rattle.state.specs.State.{tenOf, entriesWith};
 ghost use Rattle.back.specs.Board.{board};
-ghost use Rattle.back.specs.Back.{refused};
+ghost use Rattle.back.specs.TeamBoard.{teamBoard, refused};
 ghost use Rattle.reel.specs.Reel.{undoIn, reelOf, rowsBefore, rowsOf};
 ghost use Rattle.rewinding.specs.Rewinding.{isStart, newerThan, closedByRefusal, soughtIn, stepOver, copyOf, rewindTo, blankBoard, rewoundOf};
 ghost use Rattle.rewinding.specs.steps.Found.{foundIs};
 ghost use Rattle.rewinding.specs.Walk.{walk, rowsFrom, walkedIs};
 use back::Board;
 use back::BoardTick;
+use back::TeamBoard;
 use reel::Counts;
 use reel::Reel;
 use refusal::Refusal;
 use state::Entries;
-use state::Reader;
 use state::Standing;
 use taking::Off;
+use teams::TeamReader;
 
 pub enum RewindAnswer {
     Ended,
@@ -30,7 +31,7 @@ pub enum RewindAnswer {
 // The copy, just after TickStart; in a refusal there is none, and the board is blank.
 pub struct Rewound {
     pub answer: RewindAnswer,
-    pub board: Board,
+    pub board: TeamBoard,
 }
 
 // How many rows are newer than the TickStart, or that it is not there.
@@ -101,15 +102,20 @@ fn closed_by_refusal(standing: Standing) -> bool
 
 // The newest TickStart of a tick on a reel beside a reader: how many rows are newer. Refused 17 (reader, reel), 18 (a reader closed by a
 // refusal), 20 (no such TickStart), in this order.
-pub fn seek(reader: Reader, counts: Counts, rows: &[i32; 5120], tick: i32) -> Sought
+pub fn seek(reader: TeamReader, counts: Counts, rows: &[i32; 5120], tick: i32) -> Sought
     ensures { λ r. ⌜ ((inputs formers : List ℤ) → r ≡ soughtIn reader (reelOf counts (now (rows .entry)) inputs formers) tick) ⌝ }
 {
-    let scalars = reader.scalars;
-    let entries = reader.entries;
+    let teams = reader.teams;
+    let plain = reader.reader;
+    let scalars = plain.scalars;
+    let entries = plain.entries;
     if !good::both(
         good::both(
-            good_reader::good_scalars(scalars),
-            good::good_entries(entries),
+            good::both(
+                good_reader::good_scalars(scalars),
+                good::good_entries(entries),
+            ),
+            teams::good_teams(&teams),
         ),
         reel::good_counts(counts),
     ) {
@@ -133,6 +139,7 @@ fn walk_over(
     ys: &mut [i32; 128],
     held: &mut [u8; 128],
     inputs: &mut [i32; 1280],
+    teams: &mut [i32; 256],
     next: usize,
     n: usize,
     rows: &[i32; 5120],
@@ -141,9 +148,9 @@ fn walk_over(
 ) -> Over
     requires { ⌜ next < 512 ⌝ }
     ensures { λ r. ⌜
-        ((counts : Counts) → walkedIs r (entriesWith (now (marks .exit)) (now (xs .exit)) (now (ys .exit)) (now (held .exit)) (now (inputs .exit)))
+        ((counts : Counts) → walkedIs r (entriesWith (now (marks .exit)) (now (xs .exit)) (now (ys .exit)) (now (held .exit)) (now (inputs .exit))) (now (teams .exit))
         ≡ walk (reelOf counts (now (rows .entry)) (now (tens .entry)) (now (formers .entry))) n next 0
-        (board tick (entriesWith (now (marks .entry)) (now (xs .entry)) (now (ys .entry)) (now (held .entry)) (now (inputs .entry)))))
+        (teamBoard (board tick (entriesWith (now (marks .entry)) (now (xs .entry)) (now (ys .entry)) (now (held .entry)) (now (inputs .entry)))) (now (teams .entry))))
         ⌝ }
 {
     let mut t = tick;
@@ -154,7 +161,7 @@ fn walk_over(
         let undo = reel::undo_in(keeping::ten_at(rows, q));
         let ten = keeping::ten_at(tens, q);
         let old = keeping::ten_at(formers, q);
-        let off = taking::take_off(t, marks, xs, ys, held, inputs, undo, ten, old);
+        let off = taking::take_off_team(t, marks, xs, ys, held, inputs, teams, undo, ten, old);
         let left = off.tick;
         if !off.fits {
             return Over {
@@ -188,6 +195,7 @@ pub fn step_over(
     ys: &mut [i32; 128],
     held: &mut [u8; 128],
     inputs: &mut [i32; 1280],
+    teams: &mut [i32; 256],
     next: usize,
     n: usize,
     rows: &[i32; 5120],
@@ -195,9 +203,9 @@ pub fn step_over(
     formers: &[i32; 5120],
 ) -> Over
     ensures { λ r. ⌜
-        ((counts : Counts) → walkedIs r (entriesWith (now (marks .exit)) (now (xs .exit)) (now (ys .exit)) (now (held .exit)) (now (inputs .exit)))
+        ((counts : Counts) → walkedIs r (entriesWith (now (marks .exit)) (now (xs .exit)) (now (ys .exit)) (now (held .exit)) (now (inputs .exit))) (now (teams .exit))
         ≡ walk (reelOf counts (now (rows .entry)) (now (tens .entry)) (now (formers .entry))) (rowsFrom next n) next 0
-        (board tick (entriesWith (now (marks .entry)) (now (xs .entry)) (now (ys .entry)) (now (held .entry)) (now (inputs .entry)))))
+        (teamBoard (board tick (entriesWith (now (marks .entry)) (now (xs .entry)) (now (ys .entry)) (now (held .entry)) (now (inputs .entry)))) (now (teams .entry))))
         ⌝ }
 {
     if 512 <= next {
@@ -214,6 +222,7 @@ pub fn step_over(
         ys,
         held,
         inputs,
+        teams,
         next,
         n,
         rows,
@@ -222,19 +231,22 @@ pub fn step_over(
     )
 }
 
-// No tick, no players and no inputs: what stands for a copy where there is none.
-pub fn blank_board() -> Board
+// No tick, no players, no inputs and no teams: what stands for a copy where there is none.
+pub fn blank_board() -> TeamBoard
     ensures { λ r. ⌜ r ≡ blankBoard ⌝ }
 {
-    Board {
-        tick: BoardTick::NoTick,
-        entries: Entries {
-            marks: [0; 128],
-            xs: [0; 128],
-            ys: [0; 128],
-            held: [0; 128],
-            inputs: [0; 1280],
+    TeamBoard {
+        board: Board {
+            tick: BoardTick::NoTick,
+            entries: Entries {
+                marks: [0; 128],
+                xs: [0; 128],
+                ys: [0; 128],
+                held: [0; 128],
+                inputs: [0; 1280],
+            },
         },
+        teams: [0; 256],
     }
 }
 
@@ -250,7 +262,7 @@ fn refuse(why: Refusal) -> Rewound
 
 // The board after the n newest rows are stepped over.
 fn over_newest(
-    board: Board,
+    board: TeamBoard,
     n: usize,
     counts: Counts,
     rows: &[i32; 5120],
@@ -260,8 +272,10 @@ fn over_newest(
     requires { ⌜ counts .next < 512 ⌝ }
     ensures { λ r. ⌜ r ≡ rewoundOf (copyOf (stepOver (rowsBefore (reelOf counts (now (rows .entry)) (now (tens .entry)) (now (formers .entry))) n (counts .next)) board)) ⌝ }
 {
-    let tick = board.tick;
-    let entries = board.entries;
+    let mut teams = board.teams;
+    let plain = board.board;
+    let tick = plain.tick;
+    let entries = plain.entries;
     let mut marks = entries.marks;
     let mut xs = entries.xs;
     let mut ys = entries.ys;
@@ -274,6 +288,7 @@ fn over_newest(
         &mut ys,
         &mut held,
         &mut inputs,
+        &mut teams,
         counts.next,
         n,
         rows,
@@ -287,15 +302,18 @@ fn over_newest(
     let before = off.tick;
     Rewound {
         answer: RewindAnswer::Ended,
-        board: Board {
-            tick: before,
-            entries: Entries {
-                marks,
-                xs,
-                ys,
-                held,
-                inputs,
+        board: TeamBoard {
+            board: Board {
+                tick: before,
+                entries: Entries {
+                    marks,
+                    xs,
+                    ys,
+                    held,
+                    inputs,
+                },
             },
+            teams,
         },
     }
 }
@@ -303,7 +321,7 @@ fn over_newest(
 // Rewinds a copy of a reader's board to just after the newest TickStart of a tick on the reel, whose arrays are lent. Refused 17 (reader, reel),
 // 18 (a reader closed by a refusal), 20 (no such TickStart), 19 (an event newer than it doesn't fit), in this order.
 pub fn rewind_lent(
-    reader: Reader,
+    reader: TeamReader,
     counts: Counts,
     rows: &[i32; 5120],
     inputs: &[i32; 5120],
@@ -313,13 +331,20 @@ pub fn rewind_lent(
     ensures { λ r. ⌜ r ≡ rewoundOf (rewindTo reader (reelOf counts (now (rows .entry)) (now (inputs .entry)) (now (formers .entry))) tick) ⌝ }
 {
     match seek(reader, counts, rows, tick) {
-        Sought::Newer(n) => over_newest(back::board_of(reader), n, counts, rows, inputs, formers),
+        Sought::Newer(n) => over_newest(
+            back::team_board_of(reader),
+            n,
+            counts,
+            rows,
+            inputs,
+            formers,
+        ),
         Sought::Refused(why) => refuse(why),
     }
 }
 
 // The same for a reel by value.
-pub fn rewind(reader: Reader, reel: Reel, tick: i32) -> Rewound
+pub fn rewind(reader: TeamReader, reel: Reel, tick: i32) -> Rewound
     ensures { λ r. ⌜ r ≡ rewoundOf (rewindTo reader reel tick) ⌝ }
 {
     let counts = reel.counts;

@@ -1,6 +1,7 @@
 // A rewind under way by value, and lookups on its copy. The work is done by crate going on lent arrays.
 ghost use mathlib.Core.Path.{_≡_};
 ghost use Rattle.state.specs.State.{entriesWith};
+ghost use Rattle.teams.specs.Teams.{teamOf};
 ghost use Rattle.lookups.specs.Lookups.{posOf, inputFor};
 ghost use Rattle.reel.specs.Reel.{reelOf};
 ghost use Rattle.going.specs.Going.{noRewind, startRewind, goOn};
@@ -8,6 +9,7 @@ ghost use Rattle.going.specs.Lent.{goIs};
 ghost use Rattle.going.specs.declared.StartAnswer.the-variants as starts;
 use back::Board;
 use back::BoardTick;
+use back::TeamBoard;
 use going::Go;
 use going::LentGo;
 use going::Progress;
@@ -20,7 +22,8 @@ use reel::Reel;
 use refusal::Refusal;
 use rewinding::Sought;
 use state::Entries;
-use state::Reader;
+use teams::Team;
+use teams::TeamReader;
 
 // No rewind.
 fn no_start(why: Refusal) -> Start
@@ -42,7 +45,7 @@ fn no_start(why: Refusal) -> Start
 
 // Starts a rewind to just after the newest TickStart of a tick on a reel; nothing is stepped over yet. Refused 17 (reader, reel), 18 (a reader closed by
 // a refusal), 20 (no such TickStart), in this order.
-pub fn start_rewind(reader: Reader, reel: Reel, tick: i32) -> Start
+pub fn start_rewind(reader: TeamReader, reel: Reel, tick: i32) -> Start
     ensures { λ r. ⌜ r ≡ startRewind reader reel tick ⌝ }
 {
     let counts = reel.counts;
@@ -51,7 +54,7 @@ pub fn start_rewind(reader: Reader, reel: Reel, tick: i32) -> Start
         Sought::Newer(newer) => Start {
             answer: StartAnswer::Started,
             rewind: Rewind {
-                board: back::board_of(reader),
+                board: back::team_board_of(reader),
                 reel,
                 progress: Progress {
                     tick,
@@ -64,7 +67,7 @@ pub fn start_rewind(reader: Reader, reel: Reel, tick: i32) -> Start
     }
 }
 
-// What is handed back by value, of the entries that are left and of the own reel, of which only the counts change.
+// What is handed back by value, of the entries and teams that are left and of the own reel, of which only the counts change.
 fn handed(
     went: LentGo,
     marks: [u8; 128],
@@ -72,9 +75,10 @@ fn handed(
     ys: [i32; 128],
     held: [u8; 128],
     inputs: [i32; 1280],
+    teams: [i32; 256],
     reel: Reel,
 ) -> Go
-    ensures { λ r. ⌜ r ≡ goIs went (entriesWith marks xs ys held inputs) (reelOf (went .counts) (reel .rows) (reel .inputs) (reel .formers)) ⌝ }
+    ensures { λ r. ⌜ r ≡ goIs went (entriesWith marks xs ys held inputs) teams (reelOf (went .counts) (reel .rows) (reel .inputs) (reel .formers)) ⌝ }
 {
     let answer = went.answer;
     let tick = went.tick;
@@ -86,15 +90,18 @@ fn handed(
     Go {
         answer,
         rewind: Rewind {
-            board: Board {
-                tick,
-                entries: Entries {
-                    marks,
-                    xs,
-                    ys,
-                    held,
-                    inputs,
+            board: TeamBoard {
+                board: Board {
+                    tick,
+                    entries: Entries {
+                        marks,
+                        xs,
+                        ys,
+                        held,
+                        inputs,
+                    },
                 },
+                teams,
             },
             reel: Reel {
                 counts,
@@ -111,7 +118,9 @@ fn handed(
 pub fn go_on(rewind: Rewind, events: usize) -> Go
     ensures { λ r. ⌜ r ≡ goOn rewind events ⌝ }
 {
-    let board = rewind.board;
+    let whole = rewind.board;
+    let mut teams = whole.teams;
+    let board = whole.board;
     let tick = board.tick;
     let entries = board.entries;
     let mut marks = entries.marks;
@@ -132,6 +141,7 @@ pub fn go_on(rewind: Rewind, events: usize) -> Go
         &mut ys,
         &mut held,
         &mut inputs,
+        &mut teams,
         counts,
         &rows,
         &tens,
@@ -139,31 +149,42 @@ pub fn go_on(rewind: Rewind, events: usize) -> Go
         progress,
         events,
     );
-    handed(went, marks, xs, ys, held, inputs, reel)
+    handed(went, marks, xs, ys, held, inputs, teams, reel)
 }
 
 // ---- looking at the copy
 
 // The position of a client on the copy, or none.
 pub fn player_pos(rewind: Rewind, cid: i32) -> Pos
-    ensures { λ r. ⌜ r ≡ posOf (rewind .board .entries) cid ⌝ }
+    ensures { λ r. ⌜ r ≡ posOf (rewind .board .board .entries) cid ⌝ }
 {
-    let board = rewind.board;
+    let whole = rewind.board;
+    let board = whole.board;
     back::player_pos(board, cid)
 }
 
 // The ten input numbers of a client on the copy, or none.
 pub fn input(rewind: Rewind, cid: i32) -> InputOf
-    ensures { λ r. ⌜ r ≡ inputFor (rewind .board .entries) cid ⌝ }
+    ensures { λ r. ⌜ r ≡ inputFor (rewind .board .board .entries) cid ⌝ }
 {
-    let board = rewind.board;
+    let whole = rewind.board;
+    let board = whole.board;
     back::input(board, cid)
+}
+
+// The team of a client on the copy, or none.
+pub fn team(rewind: Rewind, cid: i32) -> Team
+    ensures { λ r. ⌜ r ≡ teamOf (rewind .board .teams) cid ⌝ }
+{
+    let whole = rewind.board;
+    back::team(whole, cid)
 }
 
 // The copy's tick, or none.
 pub fn tick(rewind: Rewind) -> BoardTick
-    ensures { λ r. ⌜ r ≡ rewind .board .tick ⌝ }
+    ensures { λ r. ⌜ r ≡ rewind .board .board .tick ⌝ }
 {
-    let board = rewind.board;
+    let whole = rewind.board;
+    let board = whole.board;
     board.tick
 }

@@ -1,3 +1,4 @@
+pub mod TeamLine
 pub mod FromRows
 pub mod Onward
 pub mod Puts

@@ -1,8 +1,10 @@
 // Lines of text from rows of numbers.
 ghost use mathlib.Core.Path.{_≡_};
 ghost use Prim.Native.Nat.{_+_, _*_, _-_, _≤_};
-ghost use lib.ListN.{length, take, drop};
-ghost use Rattle.lines.specs.Lines.{inputWord, longest};
+ghost use lib.ListN.{length, take, drop, getD};
+ghost use lib.IntN.{pos, negsuc};
+ghost use Rattle.kinds.specs.declared.Cid.the-variants.{Of};
+ghost use Rattle.lines.specs.Lines.{inputWord, recordLine, longest};
 ghost use Rattle.row_lines.specs.steps.RowLines.{pastOr, Tries, TriesPlain, cidTold, clientAnd, recordTold, PutsLine, PutsLines};
 use kinds::Cid;
 use varint::Wrote;
@@ -63,6 +65,15 @@ fn put_record(rows: &[i32], first: usize, out: &mut [u8], at: usize) -> usize
     past_or(lines::write_record(rows[first], cid, out, at), at)
 }
 
+// The line of a PlayerTeam whose client stands at a place of the rows.
+fn put_team(rows: &[i32], first: usize, out: &mut [u8], at: usize) -> usize
+    requires { ⌜ first + 1 ≤ length (now rows) ⌝ }
+    ensures { λ r. ⌜ Tries longest (now (out .entry)) at (recordLine (negsuc 10) (Of (getD (now (rows .entry)) first (pos 0)))) r (now (out .exit)) ⌝ }
+{
+    let client = rows[first];
+    past_or(lines::write_record(-11, Cid::Of(client), out, at), at)
+}
+
 // The line of event i, from its row and its ten numbers: the place past it.
 fn put_row(rows: &[i32], tens: &[i32], i: usize, out: &mut [u8], at: usize) -> usize
     requires { ⌜ (8 * i + 8 ≤ length (now rows)) × (20 * i + 20 ≤ length (now tens)) ⌝ }
@@ -77,6 +88,7 @@ fn put_row(rows: &[i32], tens: &[i32], i: usize, out: &mut [u8], at: usize) -> u
         4 => put_part(b"change", rows, first, first + 5, out, at),
         5 => put_part(b"old", rows, first, first + 3, out, at),
         6 => put_input(rows, first, tens, 20 * i, out, at),
+        8 => put_team(rows, first, out, at),
         _ => put_record(rows, first, out, at),
     }
 }

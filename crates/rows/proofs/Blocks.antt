@@ -9,7 +9,10 @@ use lib.IntN.{ℤ}
 use Rattle.state.specs.Reading.{Event, tickStart, tickEnd, playerNew, playerChange, playerOld, input, other}
 use Rattle.calls.specs.Calls.{Seen}
 use Rattle.calls.specs.Laws.{TensBeside}
-use Rattle.rows.specs.Rows.{eventRow, rowOf, eventTens, tensOf, put, rowsFrom, tensFrom}
+use Rattle.teams.specs.Teams.{Joining, joins, nobody, markFor, numberFor, teamsAfter, onJoining, joiningIn}
+use Rattle.teams.specs.declared.Team.{Team}
+use Rattle.team_calls.specs.Lists.{TeamSeen, withFormers}
+use Rattle.rows.specs.Rows.{eight, plainRow, eventRow, rowOf, eventTens, tensOf, put, rowsFrom, tensFrom}
 use Rattle.rows.specs.steps.Stores.{AllInRows}
 use Rattle.rows.proofs.Puts.{put-length}
 
@@ -42,20 +45,20 @@ put-front a b at ns h =
 
 -- ---- blocks, k apart, none longer
 
-module _ (f : Seen → List ℤ) (k : ℕ) where
-  abbrev from : ℕ → List Seen → List ℤ → List ℤ
+module _ (f : TeamSeen → List ℤ) (k : ℕ) where
+  abbrev from : ℕ → List TeamSeen → List ℤ → List ℤ
   from at [] mem = mem
   from at (x ∷ xs) mem = from (at + k) xs (put mem at (f x))
 
-  abbrev Small : List Seen → Type 0
+  abbrev Small : List TeamSeen → Type 0
   Small [] = Unit {0}
   Small (x ∷ xs) = (length (f x) ≤ k) × Small xs
 
-  abbrev size : List Seen → ℕ
+  abbrev size : List TeamSeen → ℕ
   size [] = 0
   size (x ∷ xs) = k + size xs
 
-  before : (at : ℕ) (xs : List Seen) (mem : List ℤ) → Small xs → at + size xs ≤ length mem → take at (from at xs mem) ≡ take at mem
+  before : (at : ℕ) (xs : List TeamSeen) (mem : List ℤ) → Small xs → at + size xs ≤ length mem → take at (from at xs mem) ≡ take at mem
   before at [] mem s h = refl
   before at (x ∷ xs) mem s h =
       let fits : at + length (f x) ≤ length mem = omega (arith, s .0) in
@@ -66,7 +69,7 @@ module _ (f : Seen → List ℤ) (k : ℕ) where
       ∙ take-take at (at + k) m (omega arith)
       ∙ put-before mem at (f x) fits
 
-  here : (at : ℕ) (x : Seen) (xs : List Seen) (mem : List ℤ) → length (f x) ≤ k → Small xs → at + (k + size xs) ≤ length mem
+  here : (at : ℕ) (x : TeamSeen) (xs : List TeamSeen) (mem : List ℤ) → length (f x) ≤ k → Small xs → at + (k + size xs) ≤ length mem
       → take (length (f x)) (drop at (from (at + k) xs (put mem at (f x)))) ≡ f x
   here at x xs mem s t h =
       let n = length (f x) in
@@ -79,14 +82,14 @@ module _ (f : Seen → List ℤ) (k : ℕ) where
       ∙ take-take n k (drop at m) s
       ∙ put-here mem at (f x) fits
 
-  same-size : (at : ℕ) (xs : List Seen) (mem : List ℤ) → Small xs → at + size xs ≤ length mem → length (from at xs mem) ≡ length mem
+  same-size : (at : ℕ) (xs : List TeamSeen) (mem : List ℤ) → Small xs → at + size xs ≤ length mem → length (from at xs mem) ≡ length mem
   same-size at [] mem s h = refl
   same-size at (x ∷ xs) mem s h =
       let fits : at + length (f x) ≤ length mem = omega (arith, s .0) in
       let l = put-length mem at (f x) fits in
       same-size (at + k) xs (put mem at (f x)) (s .1) (omega arith) ∙ l
 
-  in-front : (at : ℕ) (xs : List Seen) (a b : List ℤ) → Small xs → at + size xs ≤ length a → from at xs (a ++ b) ≡ from at xs a ++ b
+  in-front : (at : ℕ) (xs : List TeamSeen) (a b : List ℤ) → Small xs → at + size xs ≤ length a → from at xs (a ++ b) ≡ from at xs a ++ b
   in-front at [] a b s h = refl
   in-front at (x ∷ xs) a b s h =
       let fits : at + length (f x) ≤ length a = omega (arith, s .0) in
@@ -95,18 +98,23 @@ module _ (f : Seen → List ℤ) (k : ℕ) where
 
 -- ---- rows and tens
 
-event-row-length : (e : Event) (n p : ℤ) → length (eventRow e n p) ≡ 8
-event-row-length (tickStart t) n p = refl
-event-row-length (tickEnd t) n p = refl
-event-row-length (playerNew c x y) n p = refl
-event-row-length (playerChange c x y old-x old-y) n p = refl
-event-row-length (playerOld c x y) n p = refl
-event-row-length (input c former) n p = refl
-event-row-length (other r) n p = refl
+record-row-length : (m : Team) (n p : ℤ) (plain : List ℤ) (j : Joining) → length plain ≡ 8
+    → length (onJoining (λ c t. eight 8 n c t (markFor m) (numberFor m) p) plain j) ≡ 8
+record-row-length m n p plain (joins c t) h = refl
+record-row-length m n p plain nobody h = h
 
-row-length : (x : Seen) → length (rowOf x) ≡ 8
+event-row-length : (e : Event) (m : Team) (n p : ℤ) → length (eventRow e m n p) ≡ 8
+event-row-length (tickStart t) m n p = refl
+event-row-length (tickEnd t) m n p = refl
+event-row-length (playerNew c x y) m n p = refl
+event-row-length (playerChange c x y old-x old-y) m n p = refl
+event-row-length (playerOld c x y) m n p = refl
+event-row-length (input c former) m n p = refl
+event-row-length (other r) m n p = record-row-length m n p (plainRow r n p) (joiningIn r) refl
+
+row-length : (x : TeamSeen) → length (rowOf x) ≡ 8
 unfolding rowOf
-row-length x = event-row-length (x .event) _ _
+row-length x = event-row-length (x .seen .event) (x .team) _ _
 
 event-tens-le : (e : Event) (ten former : List ℤ) → length ten ≡ 10 → length former ≡ 10 → length (eventTens e ten former) ≤ 20
 event-tens-le (tickStart t) ten former h k = omega arith
@@ -117,35 +125,49 @@ event-tens-le (playerOld c x y) ten former h k = omega arith
 event-tens-le (input c held) ten former h k = omega (arith, length-append ten former)
 event-tens-le (other r) ten former h k = omega arith
 
-tens-le : (x : Seen) → length (x .ten) ≡ 10 → length (x .former) ≡ 10 → length (tensOf x) ≤ 20
+tens-le : (x : TeamSeen) → length (x .seen .ten) ≡ 10 → length (x .seen .former) ≡ 10 → length (tensOf x) ≤ 20
 unfolding tensOf
-tens-le x h k = event-tens-le (x .event) (x .ten) (x .former) h k
+tens-le x h k = event-tens-le (x .seen .event) (x .seen .ten) (x .seen .former) h k
 
-rows-small : (xs : List Seen) → Small rowOf 8 xs
+-- ten numbers and former ten stand beside each
+abbrev Beside : List TeamSeen → Type 0
+Beside [] = Unit {0}
+Beside (x ∷ xs) = ((length (x .seen .ten) ≡ 10) × (length (x .seen .former) ≡ 10)) × Beside xs
+
+beside : (t : List ℤ) (xs : List Seen) → TensBeside xs → Beside (withFormers t xs)
+unfolding TensBeside withFormers
+beside t [] b = tt
+beside t (x ∷ xs) b = (b .0, beside (teamsAfter (x .event) t) xs (b .1))
+
+pub formers-length : (t : List ℤ) (xs : List Seen) → length (withFormers t xs) ≡ length xs
+unfolding withFormers
+formers-length t [] = refl
+formers-length t (x ∷ xs) = ap suc (formers-length (teamsAfter (x .event) t) xs)
+
+rows-small : (xs : List TeamSeen) → Small rowOf 8 xs
 rows-small [] = tt
 rows-small (x ∷ xs) = (omega (arith, row-length x), rows-small xs)
 
-tens-small : (xs : List Seen) → TensBeside xs → Small tensOf 20 xs
-unfolding TensBeside
+tens-small : (xs : List TeamSeen) → Beside xs → Small tensOf 20 xs
 tens-small [] t = tt
 tens-small (x ∷ xs) t = (tens-le x (t .0 .0) (t .0 .1), tens-small xs (t .1))
 
-rows-size : (xs : List Seen) → size rowOf 8 xs ≡ 8 * length xs
+rows-size : (xs : List TeamSeen) → size rowOf 8 xs ≡ 8 * length xs
 rows-size [] = refl
 rows-size (x ∷ xs) = omega (arith, rows-size xs)
 
-tens-size : (xs : List Seen) → size tensOf 20 xs ≡ 20 * length xs
+tens-size : (xs : List TeamSeen) → size tensOf 20 xs ≡ 20 * length xs
 tens-size [] = refl
 tens-size (x ∷ xs) = omega (arith, tens-size xs)
 
-rows-are : (i : ℕ) (xs : List Seen) (mem : List ℤ) → rowsFrom i xs mem ≡ from rowOf 8 (8 * i) xs mem
+rows-are : (i : ℕ) (xs : List TeamSeen) (mem : List ℤ) → rowsFrom i xs mem ≡ from rowOf 8 (8 * i) xs mem
 unfolding rowsFrom
 rows-are i [] mem = refl
 rows-are i (x ∷ xs) mem =
     let e : 8 * suc i ≡ 8 * i + 8 = omega arith in
     rows-are (suc i) xs (put mem (8 * i) (rowOf x)) ∙ rw e
 
-tens-are : (i : ℕ) (xs : List Seen) (mem : List ℤ) → tensFrom i xs mem ≡ from tensOf 20 (20 * i) xs mem
+tens-are : (i : ℕ) (xs : List TeamSeen) (mem : List ℤ) → tensFrom i xs mem ≡ from tensOf 20 (20 * i) xs mem
 unfolding tensFrom
 tens-are i [] mem = refl
 tens-are i (x ∷ xs) mem =
@@ -153,9 +175,9 @@ tens-are i (x ∷ xs) mem =
     tens-are (suc i) xs (put mem (20 * i) (tensOf x)) ∙ rw e
 
 -- rows and tens that were put tell of their events
-told : (i : ℕ) (xs : List Seen) (rows tens : List ℤ) → TensBeside xs → 8 * i + 8 * length xs ≤ length rows
+told : (i : ℕ) (xs : List TeamSeen) (rows tens : List ℤ) → Beside xs → 8 * i + 8 * length xs ≤ length rows
     → 20 * i + 20 * length xs ≤ length tens → AllInRows i xs (from rowOf 8 (8 * i) xs rows) (from tensOf 20 (20 * i) xs tens)
-unfolding AllInRows TensBeside
+unfolding AllInRows
 told i [] rows tens t h k = tt
 told i (x ∷ xs) rows tens t h k =
     let a : 8 * suc i ≡ 8 * i + 8 = omega arith in
@@ -172,28 +194,37 @@ told i (x ∷ xs) rows tens t h k =
       rw (a, b) at (told (suc i) xs (put rows (8 * i) (rowOf x)) (put tens (20 * i) (tensOf x)) (t .1) (omega arith) (omega arith)),
     )
 
-module _ (xs : List Seen) (t : TensBeside xs) where
+-- events of calls without teams, with the teams t before them
+module _ (t : List ℤ) (xs : List Seen) (b : TensBeside xs) where
+  abbrev all : List TeamSeen
+  all = withFormers t xs
+
+  sizes : (size rowOf 8 all ≡ 8 * length xs) × (size tensOf 20 all ≡ 20 * length xs)
+  sizes = (rows-size all ∙ ap (λ (n : ℕ). 8 * n) (formers-length t xs), tens-size all ∙ ap (λ (n : ℕ). 20 * n) (formers-length t xs))
+
   pub all-told : (rows tens : List ℤ) → 8 * length xs ≤ length rows → 20 * length xs ≤ length tens
-      → AllInRows 0 xs (rowsFrom 0 xs rows) (tensFrom 0 xs tens)
-  all-told rows tens h k = rw (rows-are 0 xs rows, tens-are 0 xs tens) (told 0 xs rows tens t (omega arith) (omega arith))
+      → AllInRows 0 all (rowsFrom 0 all rows) (tensFrom 0 all tens)
+  all-told rows tens h k =
+      rw (rows-are 0 all rows, tens-are 0 all tens)
+      (told 0 all rows tens (beside t xs b) (omega (arith, formers-length t xs)) (omega (arith, formers-length t xs)))
 
-  pub rows-length : (mem : List ℤ) → 8 * length xs ≤ length mem → length (rowsFrom 0 xs mem) ≡ length mem
-  rows-length mem h = rw (rows-are 0 xs mem) (same-size rowOf 8 0 xs mem (rows-small xs) (omega (arith, rows-size xs)))
+  pub rows-length : (mem : List ℤ) → 8 * length xs ≤ length mem → length (rowsFrom 0 all mem) ≡ length mem
+  rows-length mem h = rw (rows-are 0 all mem) (same-size rowOf 8 0 all mem (rows-small all) (omega (arith, sizes .0)))
 
-  pub tens-length : (mem : List ℤ) → 20 * length xs ≤ length mem → length (tensFrom 0 xs mem) ≡ length mem
-  tens-length mem h = rw (tens-are 0 xs mem) (same-size tensOf 20 0 xs mem (tens-small xs t) (omega (arith, tens-size xs)))
+  pub tens-length : (mem : List ℤ) → 20 * length xs ≤ length mem → length (tensFrom 0 all mem) ≡ length mem
+  tens-length mem h = rw (tens-are 0 all mem) (same-size tensOf 20 0 all mem (tens-small all (beside t xs b)) (omega (arith, sizes .1)))
 
   -- in the front of a memory
-  pub front-rows : (c : ℕ) (mem : List ℤ) → c ≤ length mem → 8 * length xs ≤ c → rowsFrom 0 xs (take c mem) ++ drop c mem ≡ rowsFrom 0 xs mem
+  pub front-rows : (c : ℕ) (mem : List ℤ) → c ≤ length mem → 8 * length xs ≤ c → rowsFrom 0 all (take c mem) ++ drop c mem ≡ rowsFrom 0 all mem
   front-rows c mem h k =
       let l = length-take-le c mem h in
-      rw (rows-are 0 xs (take c mem), rows-are 0 xs mem)
-      (sym (in-front rowOf 8 0 xs (take c mem) (drop c mem) (rows-small xs) (omega (arith, rows-size xs)))
-      ∙ ap (from rowOf 8 0 xs) (take-append-drop c mem))
+      rw (rows-are 0 all (take c mem), rows-are 0 all mem)
+      (sym (in-front rowOf 8 0 all (take c mem) (drop c mem) (rows-small all) (omega (arith, sizes .0)))
+      ∙ ap (from rowOf 8 0 all) (take-append-drop c mem))
 
-  pub front-tens : (c : ℕ) (mem : List ℤ) → c ≤ length mem → 20 * length xs ≤ c → tensFrom 0 xs (take c mem) ++ drop c mem ≡ tensFrom 0 xs mem
+  pub front-tens : (c : ℕ) (mem : List ℤ) → c ≤ length mem → 20 * length xs ≤ c → tensFrom 0 all (take c mem) ++ drop c mem ≡ tensFrom 0 all mem
   front-tens c mem h k =
       let l = length-take-le c mem h in
-      rw (tens-are 0 xs (take c mem), tens-are 0 xs mem)
-      (sym (in-front tensOf 20 0 xs (take c mem) (drop c mem) (tens-small xs t) (omega (arith, tens-size xs)))
-      ∙ ap (from tensOf 20 0 xs) (take-append-drop c mem))
+      rw (tens-are 0 all (take c mem), tens-are 0 all mem)
+      (sym (in-front tensOf 20 0 all (take c mem) (drop c mem) (tens-small all (beside t xs b)) (omega (arith, sizes .1)))
+      ∙ ap (from tensOf 20 0 all) (take-append-drop c mem))

@@ -5,12 +5,16 @@ use mathlib.Core.List.{List, [], _∷_, _++_}
 use lib.ListN.{length, take, drop}
 use lib.IntN.{ℤ, pos}
 use Rattle.num.specs.Wrap.{wrap32}
+use Rattle.packer.specs.declared.Part.{Part}
+use Rattle.item.specs.Records.{Content}
 use Rattle.item.specs.Contents.{cidOf}
 use Rattle.item.specs.Numbers.{tagNumber}
 use Rattle.kinds.specs.declared.Cid.{Cid}
 use Rattle.kinds.specs.declared.Cid.the-variants.{Of, NoCid}
 use Rattle.state.specs.Reading.{Event, tickStart, tickEnd, playerNew, playerChange, playerOld, input, other}
-use Rattle.calls.specs.Calls.{Seen}
+use Rattle.teams.specs.Teams.{markFor, numberFor, onJoining, joiningIn}
+use Rattle.teams.specs.declared.Team.{Team}
+use Rattle.team_calls.specs.Lists.{TeamSeen}
 
 -- ---- one event
 
@@ -29,19 +33,25 @@ clientOr0 NoCid = pos 0
 abbrev pub eight : ℕ → ℤ → ℤ → ℤ → ℤ → ℤ → ℤ → List ℤ
 eight event used a b c d e = pos event ∷ used ∷ a ∷ b ∷ c ∷ d ∷ e ∷ pos 0 ∷ []
 
--- the event's number, the bytes used (modulo 2^32, signed), then the event's own numbers and zeros. Of a record: its kind, whether it
--- has a client, the client, whether its kind was pending
-abbrev pub eventRow : Event → ℤ → ℤ → List ℤ
-eventRow (tickStart t) n p = eight 1 n t (pos 0) (pos 0) (pos 0) (pos 0)
-eventRow (tickEnd t) n p = eight 2 n t (pos 0) (pos 0) (pos 0) (pos 0)
-eventRow (playerNew c x y) n p = eight 3 n c x y (pos 0) (pos 0)
-eventRow (playerChange c x y old-x old-y) n p = eight 4 n c x y old-x old-y
-eventRow (playerOld c x y) n p = eight 5 n c x y (pos 0) (pos 0)
-eventRow (input c former) n p = eight 6 n c (flag former) (pos 0) (pos 0) (pos 0)
-eventRow (other r) n p = eight 7 n (tagNumber (r .tag)) (clientFlag (cidOf r)) (clientOr0 (cidOf r)) p (pos 0)
+-- of a record that changes no entry and no team
+abbrev pub plainRow : Content Part → ℤ → ℤ → List ℤ
+plainRow r n p = eight 7 n (tagNumber (r .tag)) (clientFlag (cidOf r)) (clientOr0 (cidOf r)) p (pos 0)
 
-unfoldable pub rowOf : Seen → List ℤ
-rowOf x = eventRow (x .event) (wrap32 (pos (x .used))) (flag (x .pending))
+-- the event's number, the bytes used (modulo 2^32, signed), then the event's own numbers and zeros. Of a record: its kind, whether it
+-- has a client, the client, whether its kind was pending; of a PlayerTeam (number 8): the client, its team, whether it had one before, the
+-- former one, whether its kind was pending
+abbrev pub eventRow : Event → Team → ℤ → ℤ → List ℤ
+eventRow (tickStart t) m n p = eight 1 n t (pos 0) (pos 0) (pos 0) (pos 0)
+eventRow (tickEnd t) m n p = eight 2 n t (pos 0) (pos 0) (pos 0) (pos 0)
+eventRow (playerNew c x y) m n p = eight 3 n c x y (pos 0) (pos 0)
+eventRow (playerChange c x y old-x old-y) m n p = eight 4 n c x y old-x old-y
+eventRow (playerOld c x y) m n p = eight 5 n c x y (pos 0) (pos 0)
+eventRow (input c former) m n p = eight 6 n c (flag former) (pos 0) (pos 0) (pos 0)
+eventRow (other r) m n p =
+    onJoining (λ c t. eight 8 n c t (markFor m) (numberFor m) p) (plainRow r n p) (joiningIn r)
+
+unfoldable pub rowOf : TeamSeen → List ℤ
+rowOf x = eventRow (x .seen .event) (x .team) (wrap32 (pos (x .seen .used))) (flag (x .seen .pending))
 
 -- the ten numbers of an input and the former ten; another event has none
 abbrev pub eventTens : Event → List ℤ → List ℤ → List ℤ
@@ -53,8 +63,8 @@ eventTens (playerOld c x y) ten former = []
 eventTens (input c held) ten former = ten ++ former
 eventTens (other r) ten former = []
 
-unfoldable pub tensOf : Seen → List ℤ
-tensOf x = eventTens (x .event) (x .ten) (x .former)
+unfoldable pub tensOf : TeamSeen → List ℤ
+tensOf x = eventTens (x .seen .event) (x .seen .ten) (x .seen .former)
 
 -- ---- events one behind the other
 
@@ -63,11 +73,11 @@ unfoldable pub put : List ℤ → ℕ → List ℤ → List ℤ
 put mem at ns = take at mem ++ (ns ++ drop (at + length ns) mem)
 
 -- the row of event i stands at 8 i, its twenty numbers, if it is an input, at 20 i; the rest of the memory stays
-unfoldable pub rowsFrom : ℕ → List Seen → List ℤ → List ℤ
+unfoldable pub rowsFrom : ℕ → List TeamSeen → List ℤ → List ℤ
 rowsFrom i [] mem = mem
 rowsFrom i (x ∷ xs) mem = rowsFrom (suc i) xs (put mem (8 * i) (rowOf x))
 
-unfoldable pub tensFrom : ℕ → List Seen → List ℤ → List ℤ
+unfoldable pub tensFrom : ℕ → List TeamSeen → List ℤ → List ℤ
 tensFrom i [] mem = mem
 tensFrom i (x ∷ xs) mem = tensFrom (suc i) xs (put mem (20 * i) (tensOf x))
 

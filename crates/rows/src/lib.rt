@@ -9,13 +9,15 @@ ghost use Rattle.item.specs.Contents.{itemOf};
 ghost use Rattle.state.specs.Reading.{other};
 ghost use Rattle.state.specs.Views.{eventIs};
 ghost use Rattle.calls.specs.Calls.{isPending};
-ghost use Rattle.rows.specs.Rows.{flag, eventRow, put};
+ghost use Rattle.rows.specs.Rows.{flag, plainRow, eventRow, put};
 ghost use Rattle.rows.specs.steps.Stores.{Filled, EventPut};
 use item::Item;
 use kinds::Cid;
 use state::Event;
 use state::Pending;
 use state::Scalars;
+use teams::Joining;
+use teams::Team;
 
 // A number of bytes, modulo 2^32 and signed.
 fn wrapped(n: usize) -> i32
@@ -76,15 +78,36 @@ fn put_row(
     rows[at + 7] = 0;
 }
 
-// The row of a record that changes no entry.
-fn put_record(item: Item, used: i32, pending: i32, rows: &mut [i32], i: usize)
+// The row of a record that changes no entry and no team.
+fn put_plain(item: Item, used: i32, pending: i32, rows: &mut [i32], i: usize)
     requires { ⌜ 8 * i + 8 ≤ length (now rows) ⌝ }
-    ensures { λ _. ⌜ now (rows .exit) ≡ put (now (rows .entry)) (8 * i) (eventRow (other (itemOf item)) used pending) ⌝ }
+    ensures { λ _. ⌜ now (rows .exit) ≡ put (now (rows .entry)) (8 * i) (plainRow (itemOf item) used pending) ⌝ }
 {
     let kind = item.kind_number();
     match item.cid() {
         Cid::Of(c) => put_row(rows, i, 7, used, kind, 1, c, pending, 0),
         Cid::NoCid => put_row(rows, i, 7, used, kind, 0, 0, pending, 0),
+    }
+}
+
+// The row of a record; team is the former one beside a PlayerTeam.
+fn put_record(item: Item, team: Team, used: i32, pending: i32, rows: &mut [i32], i: usize)
+    requires { ⌜ 8 * i + 8 ≤ length (now rows) ⌝ }
+    ensures { λ _. ⌜ now (rows .exit) ≡ put (now (rows .entry)) (8 * i) (eventRow (other (itemOf item)) team used pending) ⌝ }
+{
+    match teams::joining_in(item) {
+        Joining::Joins { cid, team: number } => put_row(
+            rows,
+            i,
+            8,
+            used,
+            cid,
+            number,
+            teams::mark_for(team),
+            teams::number_for(team),
+            pending,
+        ),
+        Joining::Nobody => put_plain(item, used, pending, rows, i),
     }
 }
 
@@ -113,6 +136,7 @@ fn put_tens(tens: &mut [i32], i: usize, input: [i32; 10], former: [i32; 10])
 // Event i in its places; n is the number of bytes that its call used.
 fn fill(
     event: Event,
+    team: Team,
     n: i32,
     pending: i32,
     i: usize,
@@ -122,7 +146,7 @@ fn fill(
     former: &[i32; 10],
 )
     requires { ⌜ (8 * i + 8 ≤ length (now rows)) × (20 * i + 20 ≤ length (now tens)) ⌝ }
-    ensures { λ _. ⌜ Filled (eventIs event) n pending i (now (input .entry)) (now (former .entry)) (now (rows .entry)) (now (tens .entry)) (now (rows .exit)) (now (tens .exit)) ⌝ }
+    ensures { λ _. ⌜ Filled (eventIs event) team n pending i (now (input .entry)) (now (former .entry)) (now (rows .entry)) (now (tens .entry)) (now (rows .exit)) (now (tens .exit)) ⌝ }
 {
     match event {
         Event::TickStart(t) => put_row(rows, i, 1, n, t, 0, 0, 0, 0),
@@ -140,13 +164,15 @@ fn fill(
             put_row(rows, i, 6, n, cid, flag_of(had), 0, 0, 0);
             put_tens(tens, i, *input, *former);
         }
-        Event::Record(item) => put_record(item, n, pending, rows, i),
+        Event::Record(item) => put_record(item, team, n, pending, rows, i),
     }
 }
 
-// Event i in its places, if there is room for it; its call used so many bytes; pending is a number of its row.
+// Event i in its places, if there is room for it; team is the former one beside a PlayerTeam; its call used so many bytes; pending is a number
+// of its row.
 pub fn put_event(
     event: Event,
+    team: Team,
     used: usize,
     pending: i32,
     i: usize,
@@ -155,10 +181,20 @@ pub fn put_event(
     input: &[i32; 10],
     former: &[i32; 10],
 )
-    ensures { λ _. ⌜ EventPut (eventIs event) used pending i (now (input .entry)) (now (former .entry)) (now (rows .entry)) (now (tens .entry)) (now (rows .exit)) (now (tens .exit)) ⌝ }
+    ensures { λ _. ⌜ EventPut (eventIs event) team used pending i (now (input .entry)) (now (former .entry)) (now (rows .entry)) (now (tens .entry)) (now (rows .exit)) (now (tens .exit)) ⌝ }
 {
     if room_for(rows.len(), tens.len()) <= i {
         return;
     }
-    fill(event, wrapped(used), pending, i, rows, tens, input, former);
+    fill(
+        event,
+        team,
+        wrapped(used),
+        pending,
+        i,
+        rows,
+        tens,
+        input,
+        former,
+    );
 }

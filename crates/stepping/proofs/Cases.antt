@@ -20,10 +20,11 @@ use Rattle.state.specs.Reading.{
   other,
 }
 use Rattle.state.specs.declared.Entries.{Entries}
+use Rattle.teams.specs.Teams.{goodTeams, joiningOf}
+use Rattle.teams.specs.declared.Team.{Team}
 use Rattle.back.specs.Board.{board, goodTick, goodBoard}
 use Rattle.back.specs.Back.{
   Back,
-  refused,
   onlyIf,
   sameAll,
   unPresent,
@@ -31,25 +32,39 @@ use Rattle.back.specs.Back.{
   formerInput,
   unInput,
   takeOff,
-  stepBack,
+}
+use Rattle.back.specs.TeamBoard.{
+  TeamBack,
+  refused,
+  beside,
+  fitsTeams,
+  teamsBefore,
+  goodTeamBoard,
+  takeOffTeam,
+  teamStepBack,
   steppedFrom,
 }
 use Rattle.back.specs.declared.BoardTick.{BoardTick}
 use Rattle.back.specs.declared.BoardTick.the-variants.{In, NoTick}
 use Rattle.back.specs.declared.Board.{Board}
+use Rattle.back.specs.declared.TeamBoard.{TeamBoard}
 use Rattle.back.specs.declared.BackAnswer.the-variants as answers
 use Rattle.back.specs.declared.SteppedBack.{SteppedBack}
-use Rattle.taking.specs.Taking.{Taken, takenFrom}
+use Rattle.taking.specs.Taking.{TeamTaken, teamTakenFrom}
 
 -- what the call hands back of what was taken off
-abbrev pub handed : Taken → SteppedBack
+abbrev pub handed : TeamTaken → SteppedBack
 handed t = record { answer = cond (t .fits) answers.Back (answers.Refused NotLast); board = t .board }
 
 -- ---- the two ways to say what is handed back are one
 
-module _ (given : Board) where
+abbrev One : TeamBoard → TeamBack → Type 0
+One given a = handed (teamTakenFrom given a) ≡ steppedFrom given a
+
+-- l are the teams that are left
+module _ (given : TeamBoard) (l : List ℤ) where
   abbrev Whole : Back → Type 0
-  Whole a = handed (takenFrom given a) ≡ steppedFrom given a
+  Whole a = One given (beside l a)
 
   tested : (t : Bool) (before : Board) → Whole (onlyIf t before)
   tested true before = refl
@@ -85,17 +100,31 @@ module _ (given : Board) where
   whole (other r) ten former (In t) e = refl
   whole (other r) ten former NoTick e = refl
 
+one-of : (given : TeamBoard) (fits : Bool) (a : TeamBack) → One given a → One given (cond fits a (refused NotLast))
+one-of given true a p = p
+one-of given false a p = refl
+
 -- ---- the whole step: b is the board, g the flag of its test
 
-pub good-is : (b : Board) (t e g : Bool) → t ≡ goodTick (b .tick) → e ≡ goodEntries (b .entries) → g ≡ (t && e) → g ≡ goodBoard b
-unfolding goodBoard
-good-is b t e g p q r = rw (r, p, q)
+pub good-is : (b : TeamBoard) (t e s g h : Bool)
+    → t ≡ goodTick (b .board .tick) → e ≡ goodEntries (b .board .entries) → s ≡ (t && e)
+    → h ≡ goodTeams (b .teams) → g ≡ (s && h)
+    → g ≡ goodTeamBoard b
+unfolding goodTeamBoard goodBoard
+good-is b t e s g h p q r o w = rw (w, r, o, p, q)
 
-module _ (b : Board) (u : Event) (ten former : List ℤ) (g : Bool) (q : g ≡ goodBoard b) where
-  pub bad : not g ≡ true → refused BadState ≡ stepBack b u ten former
-  unfolding stepBack
+module _ (b : TeamBoard) (u : Event) (ten former : List ℤ) (m : Team) (g : Bool) (q : g ≡ goodTeamBoard b) where
+  pub bad : not g ≡ true → refused BadState ≡ teamStepBack b u ten former m
+  unfolding teamStepBack
   bad n = rw (← q, not-true g n)
 
-  pub good : not g ≡ false → handed (takenFrom b (takeOff u ten former (b .tick) (b .entries))) ≡ steppedFrom b (stepBack b u ten former)
-  unfolding stepBack
-  good n = rw (← q, not-false g n) (whole b u ten former (b .tick) (b .entries))
+  taken-one : One b (takeOffTeam u ten former m b)
+  unfolding takeOffTeam
+  taken-one =
+      one-of b (fitsTeams (joiningOf u) (b .teams))
+      (beside (teamsBefore (joiningOf u) m (b .teams)) (takeOff u ten former (b .board .tick) (b .board .entries)))
+      (whole b (teamsBefore (joiningOf u) m (b .teams)) u ten former (b .board .tick) (b .board .entries))
+
+  pub good : not g ≡ false → handed (teamTakenFrom b (takeOffTeam u ten former m b)) ≡ steppedFrom b (teamStepBack b u ten former m)
+  unfolding teamStepBack
+  good n = rw (← q, not-false g n) taken-one

@@ -10,11 +10,14 @@ ghost use Rattle.state.specs.State.{sameInt, entriesWith};
 ghost use Rattle.state.specs.declared.Entries.{Entries};
 ghost use Rattle.back.specs.Board.{board};
 ghost use Rattle.back.specs.Back.{onlyIf, unPresent, unOld, unInput, takeOff};
-ghost use Rattle.back.specs.Undo.{undone};
+ghost use Rattle.back.specs.TeamBoard.{teamBoard, fitsTeams, teamsBefore, takeOffTeam};
+ghost use Rattle.back.specs.Undo.{undone, formerIn};
 ghost use Rattle.back.specs.declared.BoardTick.the-variants.{In, NoTick};
-ghost use Rattle.taking.specs.Taking.{takenFrom, takenIs};
+ghost use Rattle.teams.specs.Teams.{joins, joiningOf};
+ghost use Rattle.taking.specs.Taking.{takenFrom, takenIs, teamTakenFrom, teamTakenIs};
 use back::BoardTick;
 use back::Undo;
+use teams::Team;
 
 // Whether the event fitted, and the tick of the board that is left.
 pub struct Off {
@@ -181,6 +184,7 @@ fn inside(
         } => un_present(t, marks, xs, ys, cid, x, y, 1, old_x, old_y),
         Undo::Old { cid, x, y } => un_old(t, marks, xs, ys, cid, x, y),
         Undo::Input { cid, former: had } => un_input(t, held, inputs, cid, had, input, former),
+        Undo::Team { .. } => left(true, BoardTick::In(t)),
         Undo::Nothing => left(true, BoardTick::In(t)),
     }
 }
@@ -213,6 +217,7 @@ fn outside(undo: Undo) -> Off
         } => left(false, BoardTick::NoTick),
         Undo::Old { cid: _, x: _, y: _ } => left(false, BoardTick::NoTick),
         Undo::Input { cid: _, former: _ } => left(false, BoardTick::NoTick),
+        Undo::Team { .. } => left(false, BoardTick::NoTick),
         Undo::Nothing => left(false, BoardTick::NoTick),
     }
 }
@@ -240,4 +245,82 @@ pub fn take_off(
         BoardTick::In(t) => inside(t, marks, xs, ys, held, inputs, undo, input, former),
         BoardTick::NoTick => outside(undo),
     }
+}
+
+// ---- teams
+
+// Whether a PlayerTeam of a client fits the teams: one of a client 0 to 127 fits an equal team, one of another client any.
+fn is_in(teams: &[i32; 256], cid: i32, team: i32) -> bool
+    ensures { λ r. ⌜ r ≡ fitsTeams (joins cid team) (now (teams .entry)) ⌝ }
+{
+    let bits = num::bits(cid);
+    if 128 <= bits {
+        return true;
+    }
+    let Team::Number(n) = teams::team_of(teams, cid) else {
+        return false;
+    };
+    compare::same_number(n, team)
+}
+
+// Whether an event fits the teams.
+fn fits_teams(teams: &[i32; 256], undo: Undo) -> bool
+    ensures { λ r. ⌜ r ≡ fitsTeams (joiningOf (undone undo)) (now (teams .entry)) ⌝ }
+{
+    match undo {
+        Undo::Start(_) => true,
+        Undo::End(_) => true,
+        Undo::New { .. } => true,
+        Undo::Change { .. } => true,
+        Undo::Old { .. } => true,
+        Undo::Input { .. } => true,
+        Undo::Team { cid, team, .. } => is_in(teams, cid, team),
+        Undo::Nothing => true,
+    }
+}
+
+// The former team returns.
+fn put_former(teams: &mut [i32; 256], undo: Undo)
+    ensures { λ _. ⌜ now (teams .exit) ≡ teamsBefore (joiningOf (undone undo)) (formerIn undo) (now (teams .entry)) ⌝ }
+{
+    match undo {
+        Undo::Start(_) => {}
+        Undo::End(_) => {}
+        Undo::New { .. } => {}
+        Undo::Change { .. } => {}
+        Undo::Old { .. } => {}
+        Undo::Input { .. } => {}
+        Undo::Team { cid, former, .. } => teams::put_team(teams, cid, former),
+        Undo::Nothing => {}
+    }
+}
+
+// The same of a board with teams.
+pub fn take_off_team(
+    tick: BoardTick,
+    marks: &mut [u8; 128],
+    xs: &mut [i32; 128],
+    ys: &mut [i32; 128],
+    held: &mut [u8; 128],
+    inputs: &mut [i32; 1280],
+    teams: &mut [i32; 256],
+    undo: Undo,
+    input: [i32; 10],
+    former: [i32; 10],
+) -> Off
+    ensures { λ r. ⌜
+        teamTakenIs r (entriesWith (now (marks .exit)) (now (xs .exit)) (now (ys .exit)) (now (held .exit)) (now (inputs .exit))) (now (teams .exit))
+        ≡ teamTakenFrom (teamBoard (board tick (entriesWith (now (marks .entry)) (now (xs .entry)) (now (ys .entry)) (now (held .entry)) (now (inputs .entry)))) (now (teams .entry)))
+        (takeOffTeam (undone undo) input former (formerIn undo)
+        (teamBoard (board tick (entriesWith (now (marks .entry)) (now (xs .entry)) (now (ys .entry)) (now (held .entry)) (now (inputs .entry)))) (now (teams .entry))))
+        ⌝ }
+{
+    if !fits_teams(&*teams, undo) {
+        return left(false, tick);
+    }
+    let off = take_off(tick, marks, xs, ys, held, inputs, undo, input, former);
+    if off.fits {
+        put_former(&mut *teams, undo);
+    }
+    off
 }

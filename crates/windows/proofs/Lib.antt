@@ -5,3 +5,4 @@ pub mod Bound
 pub mod EnoughTurns
 pub mod Rounds
 pub mod Telling
+pub mod Teams

@@ -1,4 +1,4 @@
--- What holds of turns, for any printer, as statements; proofs/Whole.antt, Wants.antt, Bound.antt and EnoughTurns.antt prove each.
+-- What holds of turns, for any printer, as statements; proofs/Whole.antt, Wants.antt, Bound.antt, EnoughTurns.antt and Teams.antt prove each.
 use Prim.Native.Nat.{ℕ, suc, _+_, _≤_}
 use mathlib.Core.Path.{_≡_}
 use mathlib.Core.Bool.{Bool, true, false, cond}
@@ -10,7 +10,10 @@ use Rattle.state.specs.State.{emptyReader}
 use Rattle.state.specs.Reading.{readCall}
 use Rattle.state.specs.declared.Reader.{Reader}
 use Rattle.calls.specs.Along.{Run, enough}
-use Rattle.windows.specs.Windows.{isShort, turnRun, ends, wants, Printer, runBy, printedFrom, printedOf}
+use Rattle.teams.specs.Laws.{SoundTeams}
+use Rattle.teams.specs.declared.TeamReader.{TeamReader}
+use Rattle.team_calls.specs.Lists.{teamsOver}
+use Rattle.windows.specs.Windows.{isShort, turnRun, teamTurnRun, ends, wants, Printer, runBy, printedFrom, printedOf}
 
 -- ---- a turn on what has arrived of what is left of a body
 
@@ -98,3 +101,13 @@ haveAll (t ∷ ts) = cond (hasEnded (t .arrived)) (suc (haveAll ts)) (haveAll ts
 -- enough turns that have all the bytes end the reading
 abbrev pub EnoughTurns : Type 0
 EnoughTurns = (ts : List Turn) (r : Reader) (body : List ℕ) → enough body ≤ haveAll ts → turnsEnd ts r body ≡ true
+
+-- ---- a turn with teams
+
+-- teams that are not refused 17 change nothing of it, and those after its events are such teams
+pub record TeamsBeside (n : ℕ) (r : TeamReader) (bytes : List ℕ) (ended : Bool) : Type 0 where
+  pub same : teamTurnRun n r bytes ended ≡ turnRun n (r .reader) bytes ended
+  pub sound : SoundTeams (teamsOver (r .teams) (teamTurnRun n r bytes ended .seen))
+
+abbrev pub TurnsWithTeams : Type 0
+TurnsWithTeams = (n : ℕ) (r : TeamReader) (bytes : List ℕ) (ended : Bool) → SoundTeams (r .teams) → TeamsBeside n r bytes ended

@@ -12,6 +12,8 @@ use Rattle.state.specs.Reading.{Event}
 use Rattle.state.specs.declared.Reader.{Reader}
 use Rattle.calls.specs.Calls.{Call, Seen}
 use Rattle.calls.specs.Along.{along, enough, Halt, isFull, wantsMore, finishes, isRefused, Run, calls}
+use Rattle.teams.specs.declared.TeamReader.{TeamReader}
+use Rattle.many.specs.Many.{teamCalls}
 
 -- ---- the window
 
@@ -34,6 +36,10 @@ isLastWindow ended bytes = cond ended (isShort bytes) false
 -- the calls on the bytes at hand
 abbrev pub turnRun : ℕ → Reader → List ℕ → Bool → Run
 turnRun n reader bytes ended = calls n reader (windowOf bytes) (isLastWindow ended bytes)
+
+-- the same on a reader with teams
+abbrev pub teamTurnRun : ℕ → TeamReader → List ℕ → Bool → Run
+teamTurnRun n reader bytes ended = teamCalls n reader (windowOf bytes) (isLastWindow ended bytes)
 
 -- too long: a full window answers more at once, before any event
 abbrev pub tooLong : Bool → ℕ → Bool

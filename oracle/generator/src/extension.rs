@@ -54,15 +54,23 @@ pub const EXTENSIONS: [Extension; 20] = [
     ),
 ];
 
-/// The place of PlayerFinish on the list; DdnetverOld, PlayerSwap, PlayerTeam, TeamFinish and TeamPractice have two numbers too.
+/// The places of PlayerFinish and PlayerTeam on the list; DdnetverOld, PlayerSwap, TeamFinish and TeamPractice have two numbers too.
 const FINISH: usize = 8;
-const LIKE_FINISH: [usize; 5] = [5, 12, 13, 14, 17];
+const TEAM: usize = 13;
+const LIKE_FINISH: [usize; 5] = [5, 12, TEAM, 14, 17];
+const LIKE_TEAM: [usize; 5] = [5, FINISH, 12, 14, 17];
 
 pub const PLAYER_FINISH: &[u8; 16] = &EXTENSIONS[FINISH].identifier;
+pub const PLAYER_TEAM: &[u8; 16] = &EXTENSIONS[TEAM].identifier;
 
 /// The identifiers of the extensions whose payload is two numbers, as PlayerFinish's is.
 pub fn like_finish() -> [&'static [u8; 16]; 5] {
     LIKE_FINISH.map(|place| &EXTENSIONS[place].identifier)
+}
+
+/// The same for PlayerTeam.
+pub fn like_team() -> [&'static [u8; 16]; 5] {
+    LIKE_TEAM.map(|place| &EXTENSIONS[place].identifier)
 }
 
 const fn extension(identifier: u128, fields: &'static [Field]) -> Extension {

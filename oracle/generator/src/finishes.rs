@@ -4,6 +4,7 @@ mod limits;
 mod race;
 
 use crate::random::Random;
+pub use limits::refused;
 use race::Race;
 use std::sync::OnceLock;
 

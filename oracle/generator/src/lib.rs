@@ -16,6 +16,7 @@ mod record;
 mod record_lines;
 mod short;
 mod skips;
+mod teams;
 
 pub use integer_lines::integer_lines;
 pub use random::Random;
@@ -51,9 +52,11 @@ pub enum Sort {
     Lengths,
     /// TickSkips, and players behind them in any order: a fixed list first, then walks.
     Skips,
+    /// PlayerTeam records: their limits in a fixed list first, then clients that change their teams again and again.
+    Teams,
 }
 
-pub const SORTS: [Sort; 13] = [
+pub const SORTS: [Sort; 14] = [
     Sort::Match,
     Sort::Moves,
     Sort::Inputs,
@@ -67,6 +70,7 @@ pub const SORTS: [Sort; 13] = [
     Sort::Reels,
     Sort::Lengths,
     Sort::Skips,
+    Sort::Teams,
 ];
 
 impl Sort {
@@ -85,6 +89,7 @@ impl Sort {
             Sort::Reels => "reels",
             Sort::Lengths => "lengths",
             Sort::Skips => "skips",
+            Sort::Teams => "teams",
         }
     }
     pub fn named(name: &str) -> Option<Sort> {
@@ -117,6 +122,7 @@ pub fn input(sort: Sort, seed: u64, index: u64) -> Vec<u8> {
         Sort::Reels => play::reels(&mut random),
         Sort::Lengths => lengths::input(index, &mut random),
         Sort::Skips => skips::input(index, &mut random),
+        Sort::Teams => teams::input(index, &mut random),
     }
 }
 
@@ -135,5 +141,6 @@ pub fn sized(sort: Sort, seed: u64, size: usize) -> Vec<u8> {
         Sort::Reels => play::sized(Style::Reels, size, &mut random),
         Sort::Lengths => lengths::sized(size, &mut random),
         Sort::Skips => skips::sized(size, &mut random),
+        Sort::Teams => teams::sized(size, &mut random),
     }
 }

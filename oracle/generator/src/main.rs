@@ -10,7 +10,7 @@ const USAGE: &str = "usage:
   generate SORT SEED --size BYTES   one long input
   generate records SEED N           N lines VERSION HEX
   generate integers SEED N          N lines HEX
-sorts: match moves inputs chat random damaged limits short long finishes reels lengths";
+sorts: match moves inputs chat random damaged limits short long finishes reels lengths skips teams";
 
 fn main() -> ExitCode {
     let arguments: Vec<String> = std::env::args().skip(1).collect();

@@ -2,6 +2,7 @@
 
 use crate::body::Body;
 use crate::extension::PLAYER_FINISH;
+use crate::extension::PLAYER_TEAM;
 
 pub const FINISH: i32 = -1;
 pub const TICK_SKIP: i32 = -2;
@@ -52,6 +53,14 @@ impl Body {
     pub fn join(self, client: i32) -> Body {
         self.ints(&[JOIN, client])
     }
+    /// Joins up to so many bytes.
+    pub fn filled(self, size: usize) -> Body {
+        let odd = (size - self.len()) % 2 == 1;
+        // a client of two bytes makes a Join of three
+        let body = if odd { self.join(64) } else { self };
+        let left = size - body.len();
+        body.raw(&Body::bare().join(0).done().repeat(left / 2))
+    }
     pub fn drop(self, client: i32, reason: &[u8]) -> Body {
         self.ints(&[DROP, client]).string(reason)
     }
@@ -67,5 +76,9 @@ impl Body {
     pub fn player_finish(self, client: i32, time: i32) -> Body {
         let payload = Body::bare().ints(&[client, time]).done();
         self.extension(PLAYER_FINISH, &payload)
+    }
+    pub fn player_team(self, client: i32, team: i32) -> Body {
+        let payload = Body::bare().ints(&[client, team]).done();
+        self.extension(PLAYER_TEAM, &payload)
     }
 }

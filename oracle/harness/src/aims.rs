@@ -4,6 +4,7 @@ use crate::changes::between;
 use crate::entries::Entries;
 use crate::entries::Held;
 use crate::entries::Player;
+use crate::entries::Team;
 use crate::entries::Wanted;
 use crate::goals::Goal;
 use crate::goals::ALL;
@@ -169,17 +170,33 @@ impl Aim {
         }
         Held::of(ten)
     }
-    fn change(&mut self) {
-        let client = self.client();
-        if self.random.one_in(3) {
-            let now = self.now().inputs[client];
-            self.wanted.entries.inputs[client] = self.held(now);
-        } else {
-            let now = self.now().players[client];
-            self.wanted.entries.players[client] = self.player(now);
+    /// Another one, one at the ends, the same, or none.
+    fn team(&mut self, now: Team) -> Team {
+        match self.random.below(6) {
+            0 => Team::of(self.random.pick(&[i32::MIN, i32::MAX, 0])),
+            1 => now,
+            2 => Team::default(),
+            _ => Team::of(self.random.number()),
         }
     }
-    /// Every client is there and has inputs, in numbers that are mostly long.
+    fn change(&mut self) {
+        let client = self.client();
+        match self.random.below(7) {
+            0 | 1 => {
+                let now = self.now().inputs[client];
+                self.wanted.entries.inputs[client] = self.held(now);
+            }
+            2 | 3 => {
+                let now = self.now().teams[client];
+                self.wanted.entries.teams[client] = self.team(now);
+            }
+            _ => {
+                let now = self.now().players[client];
+                self.wanted.entries.players[client] = self.player(now);
+            }
+        }
+    }
+    /// Every client is there and has inputs and a team, in numbers that are mostly long.
     fn crowd(&mut self) {
         for client in 0..self.wanted.entries.players.len() {
             let (x, y) = (self.random.next() as i32, self.random.next() as i32);
@@ -187,6 +204,7 @@ impl Aim {
             ten.fill_with(|| self.random.next() as i32);
             self.wanted.entries.players[client] = Player::at(x, y);
             self.wanted.entries.inputs[client] = Held::of(ten);
+            self.wanted.entries.teams[client] = Team::of(self.random.next() as i32);
         }
     }
     /// Makes it a board that can be reached.
@@ -200,18 +218,27 @@ impl Aim {
                 *then = *now;
             }
         }
+        for (then, now) in self.wanted.entries.teams.iter_mut().zip(&now.teams) {
+            if then.mark == 0 || self.stand.is_first_version {
+                *then = *now;
+            }
+        }
         if wanted == tick {
             let behind = ..self.behind;
             self.wanted.entries.players[behind].copy_from_slice(&now.players[behind]);
         }
     }
-    /// One thing that may stand in the way: a tick below, inputs that are gone, a player who differs at the remembered client, no tick.
+    /// One thing that may stand in the way: a tick below, inputs that are gone, a player who differs at the remembered client, a team
+    /// that is gone or that version 1 doesn't have, no tick.
     fn spoil(&mut self) {
         let tick = self.stand.tick;
         let holding: Vec<usize> = (0..128)
             .filter(|client| self.now().inputs[*client].mark == 1)
             .collect();
-        match self.random.below(7) {
+        let members: Vec<usize> = (0..128)
+            .filter(|client| self.now().teams[*client].mark == 1)
+            .collect();
+        match self.random.below(9) {
             0 | 1 if tick > 0 => self.wanted.tick = Some(tick - 1),
             2 | 3 if !holding.is_empty() => {
                 let client = self.random.pick(&holding);
@@ -223,6 +250,14 @@ impl Aim {
                 let y = self.now().players[client].y;
                 self.wanted.entries.players[client] = Player::at(x, y);
             }
+            6 | 7 if self.stand.is_first_version => {
+                let client = self.client();
+                self.wanted.entries.teams[client] = Team::of(self.random.number());
+            }
+            6 | 7 if !members.is_empty() => {
+                let client = self.random.pick(&members);
+                self.wanted.entries.teams[client] = Team::default();
+            }
             _ if self.random.one_in(3) => self.wanted.tick = None,
             _ => (),
         }
@@ -232,7 +267,7 @@ impl Aim {
         let client = self.client();
         let number = self.random.pick(&[1, -1, i32::MAX, i32::MIN]);
         let entries = &mut self.wanted.entries;
-        match self.random.below(5) {
+        match self.random.below(7) {
             0 => self.wanted.tick = Some(self.random.pick(&[-1, i32::MIN])),
             1 => entries.players[client].mark = self.random.pick(&[2, 255]),
             2 => entries.inputs[client].mark = self.random.pick(&[2, 255]),
@@ -243,10 +278,12 @@ impl Aim {
                     y: 0,
                 }
             }
-            _ => {
+            4 => {
                 entries.inputs[client] = Held::default();
                 entries.inputs[client].ten[self.random.below(10)] = number;
             }
+            5 => entries.teams[client].mark = self.random.pick(&[2, -1, 256, i32::MIN]),
+            _ => entries.teams[client] = Team { mark: 0, number },
         }
     }
 }

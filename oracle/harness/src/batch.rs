@@ -18,6 +18,7 @@ struct Count {
     each: u64,
     left_out: u64,
     boards: u64,
+    teams: u64,
     beyond: u64,
 }
 
@@ -56,6 +57,7 @@ impl<'a> Batch<'a> {
         self.total.inputs += 1;
         self.total.each += u64::from(when == When::Each);
         self.total.boards += wanted.boards;
+        self.total.teams += wanted.teams;
         self.total.beyond += wanted.beyond;
         Ok(())
     }
@@ -66,12 +68,13 @@ impl<'a> Batch<'a> {
     pub fn summary(&self) -> String {
         let total = &self.total;
         format!(
-            "lookups: {} inputs, {} of them after each event; {} too large; {} boards, {} lookups; {} with cids 2147483648, which libtw2 can't say; differences: {}",
+            "lookups: {} inputs, {} of them after each event; {} too large; {} boards, {} lookups, {} teams; {} with cids 2147483648, which libtw2 can't say; differences: {}",
             total.inputs,
             total.each,
             total.left_out,
             total.boards,
             total.boards * LOOKUPS,
+            total.teams,
             total.beyond,
             self.differences()
         )

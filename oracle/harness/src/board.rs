@@ -1,6 +1,7 @@
-//! What libtw2's lookups answer, as lines.
+//! What libtw2's lookups answer, and the teams beside them, as lines.
 
 use crate::expected::LARGEST_CLIENT;
+use crate::run::Run;
 use crate::text;
 use libtw2_teehistorian::raw::Pos;
 use libtw2_teehistorian::raw::Reader;
@@ -21,15 +22,18 @@ pub fn write_client(out: &mut impl Write, reader: &Reader, client: i32) -> io::R
     Ok(())
 }
 
-/// What the lookups tell of clients 0 to 127 at one time: the players that are present and the inputs, each rising by client.
+/// What is told of clients 0 to 127 at one time: by the lookups the players that are present and the inputs, by the model the teams,
+/// each rising by client.
 #[derive(Default)]
 pub struct Board {
     players: Vec<(i32, Pos)>,
     inputs: Vec<(i32, [i32; 10])>,
+    teams: Vec<(i32, i32)>,
 }
 
 impl Board {
-    pub fn of(reader: &Reader) -> Board {
+    pub fn of(run: &Run) -> Board {
+        let reader = run.reader();
         let clients = || 0..=LARGEST_CLIENT;
         Board {
             players: clients()
@@ -38,6 +42,7 @@ impl Board {
             inputs: clients()
                 .filter_map(|client| Some((client, reader.input(client)?)))
                 .collect(),
+            teams: run.teams().list(),
         }
     }
     pub fn player_pos(&self, client: i32) -> Option<Pos> {
@@ -46,15 +51,19 @@ impl Board {
     pub fn input(&self, client: i32) -> Option<[i32; 10]> {
         found(&self.inputs, client)
     }
+    pub fn team(&self, client: i32) -> Option<i32> {
+        found(&self.teams, client)
+    }
     /// The clients of its lines.
     pub fn clients(&self) -> Vec<i32> {
         let players = self.players.iter().map(|(client, _)| *client);
         let inputs = self.inputs.iter().map(|(client, _)| *client);
-        players.chain(inputs).collect()
+        let teams = self.teams.iter().map(|(client, _)| *client);
+        players.chain(inputs).chain(teams).collect()
     }
     /// The number of its lines.
     pub fn size(&self) -> u64 {
-        (self.players.len() + self.inputs.len()) as u64
+        (self.players.len() + self.inputs.len() + self.teams.len()) as u64
     }
 }
 
@@ -70,6 +79,9 @@ impl fmt::Display for Board {
         }
         for (client, input) in &self.inputs {
             writeln!(f, "input {client}{}", text::numbers(input))?;
+        }
+        for (client, team) in &self.teams {
+            writeln!(f, "team {client} {team}")?;
         }
         Ok(())
     }

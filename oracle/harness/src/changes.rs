@@ -2,6 +2,7 @@
 
 use crate::entries::Held;
 use crate::entries::Player;
+use crate::entries::Team;
 use crate::entries::Wanted;
 
 /// A change takes so many bytes, after its length.
@@ -17,23 +18,27 @@ pub enum What {
     Held,
     Tick,
     Outside,
+    TeamMark,
+    TeamNumber,
 }
 
 /// Behind the ten numbers of the inputs.
-const WHATS: [What; 6] = [
+const WHATS: [What; 8] = [
     What::Mark,
     What::X,
     What::Y,
     What::Held,
     What::Tick,
     What::Outside,
+    What::TeamMark,
+    What::TeamNumber,
 ];
 
 #[derive(Clone, Copy, Debug, PartialEq)]
 pub struct Change {
     pub what: What,
     pub client: u8,
-    /// Of a mark the low byte counts.
+    /// Of a mark of a position or of inputs the low byte counts.
     pub number: i32,
 }
 
@@ -51,6 +56,8 @@ impl Change {
             What::X => board.entries.players[client].x = self.number,
             What::Y => board.entries.players[client].y = self.number,
             What::Held => board.entries.inputs[client].mark = self.number as u8,
+            What::TeamMark => board.entries.teams[client].mark = self.number,
+            What::TeamNumber => board.entries.teams[client].number = self.number,
         }
     }
     /// After its length.
@@ -78,8 +85,9 @@ impl Change {
             number: i32::from_le_bytes(number.try_into().ok()?),
         })
     }
-    /// A word and numbers, with colons between: `tick:T`, `outside`, `player:C:X:Y`, `gone:C`, `inputs:C` and ten numbers, `lost:C`; or a
-    /// part alone, `mark:C:M`, `x:C:X`, `y:C:Y`, `held:C:M`, `number:C:PLACE:N`.
+    /// A word and numbers, with colons between: `tick:T`, `outside`, `player:C:X:Y`, `gone:C`, `inputs:C` and ten numbers, `lost:C`,
+    /// `team:C:N`, `teamless:C`; or a part alone, `mark:C:M`, `x:C:X`, `y:C:Y`, `held:C:M`, `number:C:PLACE:N`, `teammark:C:M`,
+    /// `teamnumber:C:N`.
     pub fn listed(text: &str) -> Option<Vec<Change>> {
         let mut words = text.split(':');
         let word = words.next()?;
@@ -104,6 +112,10 @@ impl Change {
             ("gone", []) => player_parts(&Player::default()),
             ("inputs", ten) => held_parts(&Held::of(ten.try_into().ok()?)),
             ("lost", []) => held_parts(&Held::default()),
+            ("team", [team]) => team_parts(&Team::of(*team)),
+            ("teamless", []) => team_parts(&Team::default()),
+            ("teammark", [mark]) => vec![(What::TeamMark, *mark)],
+            ("teamnumber", [number]) => vec![(What::TeamNumber, *number)],
             _ => return None,
         };
         Some(changes_of(u8::try_from(*client).ok()?, &parts))
@@ -126,6 +138,10 @@ fn held_parts(held: &Held) -> Vec<Part> {
     std::iter::once(mark).chain(numbers).collect()
 }
 
+fn team_parts(team: &Team) -> Vec<Part> {
+    vec![(What::TeamMark, team.mark), (What::TeamNumber, team.number)]
+}
+
 fn changes_of(client: u8, parts: &[Part]) -> Vec<Change> {
     let change = |(what, number): &Part| Change {
         what: *what,
@@ -138,8 +154,13 @@ fn changes_of(client: u8, parts: &[Part]) -> Vec<Change> {
 /// What makes one board of another.
 pub fn between(from: &Wanted, to: &Wanted) -> Vec<Change> {
     let parts = |board: &Wanted, client: usize| {
-        let player = player_parts(&board.entries.players[client]);
-        [player, held_parts(&board.entries.inputs[client])].concat()
+        let entries = &board.entries;
+        [
+            player_parts(&entries.players[client]),
+            held_parts(&entries.inputs[client]),
+            team_parts(&entries.teams[client]),
+        ]
+        .concat()
     };
     let mut changes = Vec::new();
     if from.tick != to.tick {

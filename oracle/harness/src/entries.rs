@@ -16,11 +16,18 @@ pub struct Held {
     pub ten: [i32; 10],
 }
 
+#[derive(Clone, Copy, Debug, Default, PartialEq)]
+pub struct Team {
+    pub mark: i32,
+    pub number: i32,
+}
+
 /// One of each for every client.
 #[derive(Clone, Debug, PartialEq)]
 pub struct Entries {
     pub players: Vec<Player>,
     pub inputs: Vec<Held>,
+    pub teams: Vec<Team>,
 }
 
 /// A board: the tick that was started, or none, and the entries.
@@ -42,32 +49,45 @@ impl Held {
     }
 }
 
+impl Team {
+    pub fn of(number: i32) -> Team {
+        Team { mark: 1, number }
+    }
+}
+
 impl Entries {
     pub fn none() -> Entries {
         let clients = LARGEST_CLIENT as usize + 1;
         Entries {
             players: vec![Player::default(); clients],
             inputs: vec![Held::default(); clients],
+            teams: vec![Team::default(); clients],
         }
     }
-    /// What libtw2's lookups tell.
+    /// What libtw2's lookups and the teams beside them tell.
     pub fn of(board: &Board) -> Entries {
         let player = |client| {
             let pos = board.player_pos(client);
             pos.map_or(Player::default(), |pos| Player::at(pos.x, pos.y))
         };
         let held = |client| board.input(client).map_or(Held::default(), Held::of);
+        let team = |client| board.team(client).map_or(Team::default(), Team::of);
         Entries {
             players: (0..=LARGEST_CLIENT).map(player).collect(),
             inputs: (0..=LARGEST_CLIENT).map(held).collect(),
+            teams: (0..=LARGEST_CLIENT).map(team).collect(),
         }
     }
     /// A mark other than 0 and 1, or an absent entry that holds a number.
     pub fn are_bad(&self) -> bool {
-        let is_bad = |mark: u8, is_empty: bool| mark > 1 || mark == 0 && !is_empty;
-        let is_bad_player = |player: &Player| is_bad(player.mark, (player.x, player.y) == (0, 0));
-        let is_bad_held = |held: &Held| is_bad(held.mark, held.ten == [0; 10]);
-        self.players.iter().any(is_bad_player) || self.inputs.iter().any(is_bad_held)
+        let is_bad = |mark: i32, is_empty: bool| !(mark == 1 || mark == 0 && is_empty);
+        let is_bad_player =
+            |player: &Player| is_bad(i32::from(player.mark), (player.x, player.y) == (0, 0));
+        let is_bad_held = |held: &Held| is_bad(i32::from(held.mark), held.ten == [0; 10]);
+        let is_bad_team = |team: &Team| is_bad(team.mark, team.number == 0);
+        self.players.iter().any(is_bad_player)
+            || self.inputs.iter().any(is_bad_held)
+            || self.teams.iter().any(is_bad_team)
     }
 }
 

@@ -88,7 +88,7 @@ impl<'b> Reading<'b> {
         self.moments.push(Moment {
             started,
             tick,
-            board: Board::of(self.run.reader()),
+            board: Board::of(&self.run),
         });
     }
     fn end(&mut self, is_refused: bool) {
@@ -124,9 +124,9 @@ impl<'b> Reading<'b> {
     /// The copy as the rewind program prints it.
     pub fn board(&self, rewind: &UnderWay) -> String {
         let moment = self.moment(rewind);
-        format!("board {}\n{}", tick_word(moment.tick), moment.board)
+        format!("board {}\n{}", number_word(moment.tick), moment.board)
     }
-    /// The tick, and the position and inputs of a client.
+    /// The tick, and the position, the inputs and the team of a client.
     pub fn look(&self, rewind: &UnderWay, client: i32) -> String {
         let moment = self.moment(rewind);
         let pos = moment.board.player_pos(client);
@@ -137,7 +137,9 @@ impl<'b> Reading<'b> {
         let input = input.map_or("no inputs".to_string(), |ten| {
             format!("has{}", numbers(&ten))
         });
-        format!("tick {}\n{pos}\n{input}\n", tick_word(moment.tick))
+        let team = number_word(moment.board.team(client));
+        let tick = number_word(moment.tick);
+        format!("tick {tick}\n{pos}\n{input}\nteam {team}\n")
     }
 }
 
@@ -168,8 +170,9 @@ fn started(event: &Item) -> Option<i32> {
     }
 }
 
-fn tick_word(tick: Option<i32>) -> String {
-    tick.map_or("-".to_string(), |tick| tick.to_string())
+/// A tick or a team; `-` for none.
+fn number_word(number: Option<i32>) -> String {
+    number.map_or("-".to_string(), |number| number.to_string())
 }
 
 #[cfg(test)]

@@ -35,6 +35,7 @@ pub mod skips;
 pub mod stage;
 pub mod stand;
 pub mod subject;
+pub mod teams;
 pub mod text;
 pub mod ties;
 

@@ -1,5 +1,5 @@
-//! What the program lookup_vectors must print: a body's last line and the board that libtw2's lookups then tell, or the
-//! board after each event too.
+//! What the program lookup_vectors must print: a body's last line and the board that libtw2's lookups then tell, with the teams
+//! beside it, or the board after each event too.
 
 use crate::board::write_client;
 use crate::expected::has_large_client;
@@ -16,13 +16,15 @@ use libtw2_teehistorian::raw::Item;
 use std::io;
 use std::io::Write;
 
-/// lookup_vectors asks for -2147483648, -1, 0 to 127, 128 and 2147483647, for positions and for inputs, and for `cids`.
-pub const LOOKUPS: u64 = 2 * 132 + 1;
+/// lookup_vectors asks for -2147483648, -1, 0 to 127, 128 and 2147483647, for positions, inputs and teams, and for `cids`.
+pub const LOOKUPS: u64 = 3 * 132 + 1;
 
 #[derive(Default)]
 pub struct Lookups {
     pub text: String,
     pub boards: u64,
+    /// The clients on them that have a team.
+    pub teams: u64,
     /// Boards whose `cids()` ends at 2147483648, which libtw2 can't say.
     pub beyond: u64,
 }
@@ -78,6 +80,7 @@ impl Lookups {
     fn add(&mut self, run: &Run, tick: Option<i32>) {
         let end = run.reader().cids().end;
         self.boards += 1;
+        self.teams += run.teams().list().len() as u64;
         self.beyond += u64::from(end < 0);
         let mut lines = Vec::new();
         write_board(&mut lines, run, tick, end).expect("a vector takes every byte");
@@ -102,6 +105,9 @@ fn write_board(out: &mut impl Write, run: &Run, tick: Option<i32>, end: i32) -> 
     }
     for client in 0..=LARGEST_CLIENT {
         write_client(out, run.reader(), client)?;
+    }
+    for (client, team) in run.teams().list() {
+        writeln!(out, "team {client} {team}")?;
     }
     // The end wraps where the largest client is 2147483647.
     writeln!(out, "cids {}", end as u32)

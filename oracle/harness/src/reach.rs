@@ -4,6 +4,7 @@
 
 use crate::entries::Held;
 use crate::entries::Player;
+use crate::entries::Team;
 use crate::entries::Wanted;
 use crate::fields::hex;
 use crate::goals::Goal;
@@ -16,6 +17,10 @@ const PLAYER_NEW: i32 = -3;
 const PLAYER_OLD: i32 = -4;
 const INPUT_NEW: i32 = -6;
 const COMMAND: i32 = -10;
+const EXTENSION: i32 = -11;
+
+/// The identifier of PlayerTeam.
+pub const PLAYER_TEAM: [u8; 16] = 0xa111c04e1ea838e090b1d7f993ca0da9_u128.to_be_bytes();
 
 /// Why a board can't be reached.
 #[derive(Clone, Copy, Debug, PartialEq)]
@@ -26,6 +31,10 @@ pub enum Cause {
     Tick,
     /// A client has inputs now and none in it.
     Inputs,
+    /// A client has a team now and none in it.
+    Team,
+    /// A client has a team in it, and the reader's version is 1.
+    Version,
     /// The ticks are equal, the reader is inside it, and a player entry differs at or below the remembered client.
     Player,
 }
@@ -115,6 +124,7 @@ fn causes(stand: &Stand, wanted: &Wanted) -> Vec<Cause> {
     };
     let (now, then) = (&stand.board.entries, &wanted.entries);
     let mut inputs = now.inputs.iter().zip(&then.inputs);
+    let mut teams = now.teams.iter().zip(&then.teams);
     let is_same_tick = stand.is_inside() && tick == stand.tick;
     let is_differing = || {
         let behind = stand.behind();
@@ -126,55 +136,79 @@ fn causes(stand: &Stand, wanted: &Wanted) -> Vec<Cause> {
             inputs.any(|(now, then)| now.mark == 1 && then.mark != 1),
             Cause::Inputs,
         ),
+        (
+            teams.any(|(now, then)| now.mark == 1 && then.mark != 1),
+            Cause::Team,
+        ),
+        (
+            stand.is_first_version && then.teams.iter().any(|team| team.mark == 1),
+            Cause::Version,
+        ),
         (is_same_tick && is_differing(), Cause::Player),
     ];
     let causes = held.into_iter().filter(|(holds, _)| *holds);
     causes.map(|(_, cause)| cause).collect()
 }
 
-/// The bytes of the chosen records: a TickSkip to the tick, players, inputs, and a command if nothing else starts the tick.
+/// The bytes of the chosen records: a TickSkip to the tick, players, inputs, teams, and a command if nothing else starts the tick.
 fn chosen(stand: &Stand, tick: i32, wanted: &Wanted) -> Vec<u8> {
     let (now, then) = (&stand.board.entries, &wanted.entries);
     let is_later = stand.tick < tick;
-    let mut records: Vec<Vec<i32>> = Vec::new();
+    let mut records: Vec<Vec<u8>> = Vec::new();
     if is_later {
-        records.push(vec![TICK_SKIP, tick - stand.tick - 1]);
+        records.push(packed(&[TICK_SKIP, tick - stand.tick - 1]));
     }
     let skips = records.len();
     let players = now.players.iter().zip(&then.players).enumerate();
     records.extend(players.filter_map(|(client, (now, then))| player(client as i32, now, then)));
     let inputs = now.inputs.iter().zip(&then.inputs).enumerate();
     records.extend(inputs.filter_map(|(client, (now, then))| input(client as i32, now, then)));
+    let teams = now.teams.iter().zip(&then.teams).enumerate();
+    records.extend(teams.filter_map(|(client, (now, then))| team(client as i32, now, then)));
     // inside a tick a skip ends it, outside it starts the next
     let is_started = stand.is_inside() != is_later;
     if !is_started && records.len() == skips {
         // of the server's own client, with no flags, an empty name and no arguments
-        records.push(vec![COMMAND, -1, 0, 0, 0]);
+        records.push(packed(&[COMMAND, -1, 0, 0, 0]));
     }
-    let numbers = records.concat();
+    records.concat()
+}
+
+/// Numbers, one behind the other.
+fn packed(numbers: &[i32]) -> Vec<u8> {
     numbers.iter().flat_map(|number| written(*number)).collect()
 }
 
-fn player(client: i32, now: &Player, then: &Player) -> Option<Vec<i32>> {
+fn player(client: i32, now: &Player, then: &Player) -> Option<Vec<u8>> {
     if now == then {
         return None;
     }
     Some(match (now.mark, then.mark) {
-        (1, 1) => vec![
+        (1, 1) => packed(&[
             client,
             then.x.wrapping_sub(now.x),
             then.y.wrapping_sub(now.y),
-        ],
-        (1, _) => vec![PLAYER_OLD, client],
-        _ => vec![PLAYER_NEW, client, then.x, then.y],
+        ]),
+        (1, _) => packed(&[PLAYER_OLD, client]),
+        _ => packed(&[PLAYER_NEW, client, then.x, then.y]),
     })
 }
 
-fn input(client: i32, now: &Held, then: &Held) -> Option<Vec<i32>> {
+fn input(client: i32, now: &Held, then: &Held) -> Option<Vec<u8>> {
     if then.mark != 1 || now == then {
         return None;
     }
-    Some([&[INPUT_NEW, client][..], &then.ten].concat())
+    Some([packed(&[INPUT_NEW, client]), packed(&then.ten)].concat())
+}
+
+/// A PlayerTeam record: its kind and identifier, and the two numbers behind their length.
+fn team(client: i32, now: &Team, then: &Team) -> Option<Vec<u8>> {
+    if then.mark != 1 || now == then {
+        return None;
+    }
+    let data = packed(&[client, then.number]);
+    let head = [packed(&[EXTENSION]), PLAYER_TEAM.to_vec()].concat();
+    Some([head, packed(&[data.len() as i32]), data].concat())
 }
 
 #[cfg(test)]

@@ -7,6 +7,7 @@ use crate::reach::told;
 use crate::reach::Answer;
 use crate::reach::Cause;
 use crate::reach::Told;
+use crate::reach::PLAYER_TEAM;
 use crate::subject::Task;
 use generator::Sort;
 use std::io;
@@ -28,12 +29,16 @@ struct Count {
     longest: usize,
     lengths: [u64; LENGTHS.len()],
     commands: u64,
+    /// PlayerTeam records.
+    teams: u64,
     /// By number.
     refused: [u64; 24],
     /// Of 23, with other causes beside and alone.
     outside: u64,
     tick: [u64; 2],
     inputs: [u64; 2],
+    team: [u64; 2],
+    version: [u64; 2],
     player: [u64; 2],
 }
 
@@ -50,6 +55,8 @@ impl Count {
                 self.bytes += size as u64;
                 self.longest = self.longest.max(size);
                 self.commands += u64::from(bytes.ends_with(&[0x49, 0x40, 0, 0, 0]));
+                let teams = bytes.windows(PLAYER_TEAM.len());
+                self.teams += teams.filter(|bytes| **bytes == PLAYER_TEAM).count() as u64;
             }
             Answer::Refused(number) => self.refused[usize::from(*number)] += 1,
         }
@@ -59,6 +66,8 @@ impl Count {
                 Cause::Outside => self.outside += 1,
                 Cause::Tick => self.tick[alone] += 1,
                 Cause::Inputs => self.inputs[alone] += 1,
+                Cause::Team => self.team[alone] += 1,
+                Cause::Version => self.version[alone] += 1,
                 Cause::Player => self.player[alone] += 1,
             }
         }
@@ -72,7 +81,7 @@ impl Count {
             .collect();
         let each = |[beside, alone]: [u64; 2]| format!("{} ({alone} alone)", beside + alone);
         format!(
-            "reach: seed {seed}; {}; {} pairs, {} left out; written: {written}, of bytes {}, the longest {}; {} bytes, {} events; {} end with the empty command; brought libtw2 elsewhere: {}; refused 9: {}, 17: {}, 18: {}, 22: {}, 23: {}: outside a tick {}, tick {}, inputs {}, player {}; differences: {differences}",
+            "reach: seed {seed}; {}; {} pairs, {} left out; written: {written}, of bytes {}, the longest {}; {} bytes, {} events; {} end with the empty command; {} PlayerTeams; brought libtw2 elsewhere: {}; refused 9: {}, 17: {}, 18: {}, 22: {}, 23: {}: outside a tick {}, tick {}, inputs {}, team {}, team in version 1 {}, player {}; differences: {differences}",
             parts.join(", "),
             self.pairs,
             self.left_out,
@@ -81,6 +90,7 @@ impl Count {
             self.bytes,
             self.events,
             self.commands,
+            self.teams,
             self.lost,
             refused(9),
             refused(17),
@@ -90,6 +100,8 @@ impl Count {
             self.outside,
             each(self.tick),
             each(self.inputs),
+            each(self.team),
+            each(self.version),
             each(self.player),
         )
     }

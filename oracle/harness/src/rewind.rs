@@ -77,7 +77,7 @@ impl Past {
                 self.starts.push(Start {
                     tick,
                     event: self.events,
-                    board: Board::of(run.reader()),
+                    board: Board::of(run),
                 });
             }
         }

@@ -1,6 +1,7 @@
 //! One reading of a body by libtw2's reader, call by call.
 
 use crate::length;
+use crate::teams::Teams;
 use libtw2_teehistorian::format;
 use libtw2_teehistorian::format::item;
 use libtw2_teehistorian::format::Version;
@@ -34,6 +35,7 @@ pub struct Run<'b> {
     reader: raw::Reader,
     buffer: raw::Buffer,
     source: Source<'b>,
+    teams: Teams,
 }
 
 impl<'b> Run<'b> {
@@ -54,16 +56,20 @@ impl<'b> Run<'b> {
                 pace,
                 requests: 0,
             },
+            teams: Teams::none(),
         })
     }
-    /// libtw2's own call.
+    /// libtw2's own call, without the teams.
     pub fn read(&mut self) -> Result<Option<raw::Item<'_>>, raw::Error<Stop>> {
         self.source.read(&mut self.reader, &mut self.buffer)
     }
     /// The project's answer: libtw2's, but for a negative length, which libtw2 takes for bytes that run out.
     pub fn call(&mut self) -> Answer<'_> {
         let answer = match self.source.read(&mut self.reader, &mut self.buffer) {
-            Ok(Some(item)) => return Answer::Event(item),
+            Ok(Some(item)) => {
+                self.teams.apply(&item);
+                return Answer::Event(item);
+            }
             Ok(None) => return Answer::Finish,
             Err(raw::Error::Teehistorian(error)) => Answer::Refused(refusal(&error)),
             Err(raw::Error::Cb(Stop)) => Answer::Stopped,
@@ -81,6 +87,10 @@ impl<'b> Run<'b> {
     }
     pub fn reader(&self) -> &raw::Reader {
         &self.reader
+    }
+    /// The teams after the calls so far.
+    pub fn teams(&self) -> &Teams {
+        &self.teams
     }
 }
 

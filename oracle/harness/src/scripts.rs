@@ -28,7 +28,7 @@ pub enum What {
     Go,
     /// The same, and its copy is printed.
     Board,
-    /// Its tick, and the position and inputs of a client on its copy.
+    /// Its tick, and the position, the inputs and the team of a client on its copy.
     Look,
     /// A rewind to a tick in one call, and in calls of 1, 7, 511 and 512 events each.
     Splits,

@@ -110,7 +110,7 @@ impl Stage<'_> {
         self.told.looks += 1;
         let text = match &self.rewinds[place] {
             Some(rewind) => self.reading.look(rewind, client),
-            None => "tick -\nnowhere\nno inputs\n".to_string(),
+            None => "tick -\nnowhere\nno inputs\nteam -\n".to_string(),
         };
         self.say(&text);
     }

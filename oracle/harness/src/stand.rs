@@ -1,10 +1,11 @@
 //! Readers from which a wanted board is to be reached. Of one that has read, libtw2's reader tells all: its lookups the entries,
-//! its events the tick, and a record put behind what it has read the tick that it would start and whether a client is at or below
-//! the remembered one. Others are made by hand.
+//! its events the tick and the teams, and a record put behind what it has read the tick that it would start and whether a client is
+//! at or below the remembered one. Others are made by hand.
 
 use crate::board::Board;
 use crate::entries::Entries;
 use crate::entries::Player;
+use crate::entries::Team;
 use crate::entries::Wanted;
 use crate::expected::has_large_client;
 use crate::expected::LARGEST_CLIENT;
@@ -104,7 +105,7 @@ impl<'b> Walk<'b> {
     pub fn board(&self) -> Wanted {
         Wanted {
             tick: self.tick,
-            entries: Entries::of(&Board::of(self.run.reader())),
+            entries: Entries::of(&Board::of(&self.run)),
         }
     }
 }
@@ -122,8 +123,51 @@ enum Origin {
     },
 }
 
+/// What is given of a reader made by hand. Where bytes are missing they are 0.
+struct Given<'g>(&'g [u8]);
+
+impl Given<'_> {
+    fn byte(&self, place: usize) -> u8 {
+        self.0.get(place).copied().unwrap_or(0)
+    }
+    /// 100 less than its byte.
+    fn number(&self, place: usize) -> i32 {
+        match self.byte(place) {
+            255 => i32::MIN,
+            byte => i32::from(byte) - 100,
+        }
+    }
+    /// A client's position and one number of its inputs, and a client's team; without the bytes of that nobody has one.
+    fn entries(&self) -> Entries {
+        let mut entries = Entries::none();
+        let client = usize::from(self.byte(7));
+        if let Some(player) = entries.players.get_mut(client) {
+            *player = Player {
+                mark: self.byte(8),
+                x: self.number(9),
+                y: self.number(10),
+            };
+            let held = &mut entries.inputs[client];
+            if let Some(place) = held.ten.get_mut(usize::from(self.byte(12))) {
+                *place = self.number(13);
+                held.mark = self.byte(11);
+            }
+        }
+        let member = self.0.get(14).map(|client| usize::from(*client));
+        if let Some(team) = member.and_then(|client| entries.teams.get_mut(client)) {
+            *team = Team {
+                mark: self.number(15),
+                number: self.number(16),
+            };
+        }
+        entries
+    }
+}
+
 pub struct Stand {
     origin: Origin,
+    /// Version 1 has no extensions.
+    pub is_first_version: bool,
     pub is_bad: bool,
     pub is_closed: bool,
     pub is_pending: bool,
@@ -150,6 +194,7 @@ impl Stand {
                 body: body[..walk.used].to_vec(),
                 events: walk.events,
             },
+            is_first_version: version == 1,
             is_bad: false,
             is_closed: walk.is_closed,
             is_pending: walk.is_pending,
@@ -161,43 +206,29 @@ impl Stand {
         }
         stand
     }
-    /// As alike::reader_in has it, then the remembered client.
+    /// As team_alike::team_reader_in has it, then the remembered client.
     fn by_hand(given: &[u8]) -> Stand {
-        let byte = |place: usize| given.get(place).copied().unwrap_or(0);
-        let number = |place| match byte(place) {
-            255 => i32::MIN,
-            byte => i32::from(byte) - 100,
-        };
-        let (tick, largest) = (number(1), number(2));
-        let is_bad_kind = match byte(3) {
-            1 => number(4) < 0,
-            3 => byte(0) == 1,
+        let given = Given(given);
+        let (tick, largest) = (given.number(1), given.number(2));
+        let is_first_version = given.byte(0) == 1;
+        let is_bad_kind = match given.byte(3) {
+            1 => given.number(4) < 0,
+            3 => is_first_version,
             _ => false,
         };
-        let mut entries = Entries::none();
-        let client = usize::from(byte(7));
-        if let Some(player) = entries.players.get_mut(client) {
-            *player = Player {
-                mark: byte(8),
-                x: number(9),
-                y: number(10),
-            };
-            let held = &mut entries.inputs[client];
-            if let Some(place) = held.ten.get_mut(usize::from(byte(12))) {
-                *place = number(13);
-                held.mark = byte(11);
-            }
-        }
+        let entries = given.entries();
+        let remembered = given.byte(17);
         Stand {
             origin: Origin::Hand {
-                remembered: (byte(14) != NO_CLIENT).then_some(i32::from(byte(14))),
+                remembered: (remembered != NO_CLIENT).then_some(i32::from(remembered)),
             },
+            is_first_version,
             is_bad: tick < 0 || largest < -1 || is_bad_kind || entries.are_bad(),
-            is_closed: (1..=2).contains(&byte(5)),
-            is_pending: (1..=3).contains(&byte(3)),
+            is_closed: (1..=2).contains(&given.byte(5)),
+            is_pending: (1..=3).contains(&given.byte(3)),
             tick,
             board: Wanted {
-                tick: (byte(6) == 1).then_some(tick),
+                tick: (given.byte(6) == 1).then_some(tick),
                 entries,
             },
         }

@@ -19,7 +19,7 @@ returns c =
     let k = c .before .before .before .before .before .before .before .before in
     let a = k .before .args in
     let e = sym (c .before .before .before .before .before .before .newer .given .1) ∙ sought k in
-    started-is (a .reader) (reelOf (a .counts) (a .rows .now) (a .inputs .now) (a .formers .now)) (a .tick) _ e _ (c .before .board-of .ensures) _
+    started-is (a .reader) (reelOf (a .counts) (a .rows .now) (a .inputs .now) (a .formers .now)) (a .tick) _ e _ (c .before .team-board-of .ensures) _
     (rw (tick-same k) at (c .started .ensures)) _
 
 returns-2 : tie.Need-returns-2

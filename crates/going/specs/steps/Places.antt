@@ -32,5 +32,6 @@ lentOf fits t p k counts w =
 -- the same of a walk over its own reel
 abbrev pub goneFrom : Rewind → Walked → Go
 goneFrom w x =
-    let r = lentOf (x .taken .fits) (x .taken .board .tick) (x .place) (x .over) (w .reel .counts) (w .progress) in
-    goIs r (x .taken .board .entries) (reelOf (r .counts) (w .reel .rows) (w .reel .inputs) (w .reel .formers))
+    let b = x .taken .board in
+    let r = lentOf (x .taken .fits) (b .board .tick) (x .place) (x .over) (w .reel .counts) (w .progress) in
+    goIs r (b .board .entries) (b .teams) (reelOf (r .counts) (w .reel .rows) (w .reel .inputs) (w .reel .formers))

@@ -4,8 +4,12 @@ use mathlib.Core.Path.{_≡_, refl}
 use mathlib.Core.List.{List}
 use lib.IntN.{ℤ}
 use borrow.Author.Needs.{needs}
+use Rattle.item.specs.Contents.{itemOf}
 use Rattle.state.specs.State.{putTen}
 use Rattle.state.proofs.Numbers.{Three}
+use Rattle.teams.specs.Teams.{Joining, joins, nobody, joiningIn}
+use Rattle.teams.specs.declared.Team.{Team}
+use Rattle.back.specs.Undo.{undoJoining}
 use Rattle.back.specs.declared.Undo.{Undo}
 use Rattle.back.proofs.Cases.{Same}
 use Rattle.reel.specs.Reel.{ofInput, numbersOf}
@@ -36,6 +40,17 @@ input c =
     rw (g .1)
     (record { rows = rw (cid, had, f .ensures) at (m .put-row6 .ensures); inputs = c .before .before .before .put-ten .ensures; formers = c .put-ten2 .ensures })
 
+-- what a record says of a team is no input
+said-only : (j : Joining) (m : Team) (x y : List ℤ) → y ≡ ofInput (undoJoining j m) x y
+said-only (joins c n) m x y = refl
+said-only nobody m x y = refl
+
+record-kept : tie.Need-returns-7
+record-kept c =
+    let g = c .before .before .before .before .event7 .given in
+    let j = c .before .joining-in in
+    rw (g .1) (row-only (said-only (joiningIn (itemOf (g .0 .0))) (c .before .before .before .before .before .before .args .team)) (rw (j .ensures) at (c .put-record .ensures)))
+
 pub store-spec : {M : Type 1} → statement M
 store-spec =
     tie.close
@@ -43,7 +58,7 @@ store-spec =
     (λ c. search needs) (λ c κs. search needs) (λ c. search needs) (λ c κs. search needs) (λ c. search needs)
     (λ c κs. search needs) (λ c. search needs) (λ c κs. search needs) (λ c. search needs) (λ c κs. search needs)
     (λ c. search needs) (λ c κs. search needs) (λ c κs. search needs) (λ c κs. search needs) (λ c κs. search needs)
-    (λ c. search needs) (λ c κs. search needs)
+    (λ c. search needs) (λ c κs. search needs) (λ c κs. search needs)
     (λ c. let g = c .before .before .before .event .given in
     let t : Same (g .0 .0) = search needs in rw (g .1) (row-only (λ x y. refl) (rw t at (c .put-row .ensures))))
     (λ c. let g = c .before .before .before .event2 .given in
@@ -56,4 +71,4 @@ store-spec =
     let n : Three (g .0 .0) (g .0 .1 .0) (g .0 .1 .1 .0) = search needs in
     rw (g .1) (row-only (λ x y. refl) (rw (n .first, n .second, n .third) at (c .put-row5 .ensures))))
     input
-    (λ c. rw (c .before .before .enum-told .given .1) (row-only (λ x y. refl) (c .put-row7 .ensures))))
+    record-kept)

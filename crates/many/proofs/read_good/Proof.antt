@@ -7,7 +7,7 @@ use Rattle.many.proofs.read_good.Tie as tie
 
 read-rows-requires : tie.Need-read-rows-requires
 read-rows-requires c κs =
-    let st = c .before .before .before .before .before .before .before .before .before .before .before .before .before .before .before in
+    let st = c .before .before .before .before .before .before .before .before .before .before .before .before .before .before .before .before in
     let e = st .args .entries in
     let marks : length (e .marks) ≡ 128 = search needs in
     let xs : length (e .xs) ≡ 128 = search needs in

@@ -6,7 +6,8 @@ use lib.IntN.{ℤ}
 use Rattle.state.specs.State.{readerWith}
 use Rattle.state.specs.declared.Entries.{Entries}
 use Rattle.state.specs.declared.Scalars.{Scalars}
-use Rattle.state.specs.declared.Reader.{Reader}
+use Rattle.teams.specs.Teams.{teamReader}
+use Rattle.teams.specs.declared.TeamReader.{TeamReader}
 use Rattle.many.specs.declared.Stop.{Stop}
 use Rattle.many.specs.declared.RowsRead.{RowsRead}
 use Rattle.many.specs.declared.ManyAnswer.{ManyAnswer}
@@ -19,9 +20,9 @@ pub record Room (n : ℕ) (rs ts : List ℤ) : Type 0 where
 abbrev pub rowsRead : Stop → ℕ → ℕ → Scalars → RowsRead
 rowsRead stop count used s = record { stop = stop; count = count; used = used; scalars = s }
 
-abbrev pub answerOf : RowsRead → Entries → ManyAnswer
-answerOf r e = record { stop = r .stop; count = r .count; used = r .used; reader = readerWith (r .scalars) e }
+abbrev pub answerOf : RowsRead → Entries → List ℤ → ManyAnswer
+answerOf r e t = record { stop = r .stop; count = r .count; used = r .used; reader = teamReader (readerWith (r .scalars) e) t }
 
 -- no call was made
-abbrev pub notRead : Stop → Reader → ManyAnswer
+abbrev pub notRead : Stop → TeamReader → ManyAnswer
 notRead stop r = record { stop = stop; count = 0; used = 0; reader = r }

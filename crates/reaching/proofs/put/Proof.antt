@@ -6,15 +6,15 @@ use Rattle.reaching.proofs.put.Statement.{statement}
 use Rattle.reaching.proofs.put.Tie as tie
 
 returns : tie.Need-returns
-returns c = let st = c .before .before .before in put-none (st .args .choice) (st .args .out .now) (st .args .at) (st .pre) (not-true _ (c .if1 .taken))
+returns c = let st = c .before .before .before in put-none (st .args .version) (st .args .choice) (st .args .out .now) (st .args .at) (st .pre) (not-true _ (c .if1 .taken))
 
 returns-2 : tie.Need-returns-2
 returns-2 c =
     let st = c .before .before .before .before .before .before .before .before .before .before .before in
     let a = st .args in
-    never-refused (a .choice) (a .out .now) (a .at) (st .pre)
+    never-refused (a .version) (a .choice) (a .out .now) (a .at) (st .pre)
     (not-false _ (c .before .before .before .before .before .before .before .before .if1 .left))
-    (a .version) _ _
+    _ _
     (c .before .before .before .before .write-record .ensures)
     _
     (c .enum-told .given .1)
@@ -23,9 +23,9 @@ returns-3 : tie.Need-returns-3
 returns-3 c =
     let st = c .before .before .before .before .before .before .before .before .before .before .before .before in
     let a = st .args in
-    put-past (a .choice) (a .out .now) (a .at) (st .pre)
+    put-past (a .version) (a .choice) (a .out .now) (a .at) (st .pre)
     (not-false _ (c .before .before .before .before .before .before .before .before .before .if1 .left))
-    (a .version) _ _
+    _ _
     (c .before .before .before .before .before .write-record .ensures)
     _
     (c .before .next .given .1)

@@ -8,8 +8,8 @@ use Rattle.record_writer.specs.steps.Puts.{PutsBytes}
 use Rattle.state.specs.State.{entriesWith}
 use Rattle.state.specs.declared.Entries.{Entries}
 use Rattle.state.proofs.Numbers.{back, element}
-use Rattle.choice.specs.Chosen.{Rec, changes, skipTo, startedBy, startIf, isSome, chosen, bytesOf}
-use Rattle.choice.proofs.Lengths.{bytes-append-le, skip-le, changes-le, start-le}
+use Rattle.choice.specs.Chosen.{Rec, allChanges, skipTo, startedBy, startIf, isSome, chosen, bytesOf}
+use Rattle.choice.proofs.Lengths.{bytes-append-le, skip-le, all-changes-le, start-le}
 use Rattle.choosing.specs.Choice.{Chooses}
 use Rattle.reaching.proofs.Putting.{ready-at, second-room, both-put, something-put}
 use Rattle.reaching.proofs.put_all.Statement.{statement}
@@ -27,7 +27,10 @@ abbrev skip : tie.Start → List Rec
 skip c = skipTo (c .args .s .tick) (c .args .u)
 
 abbrev change : tie.Start → List Rec
-change c = changes (has c) (wants c)
+change c = allChanges (has c) (c .args .teams .now) (wants c) (c .args .wteams .now)
+
+change-le : (c : tie.Start) → length (bytesOf (change c)) ≤ 12800
+change-le c = all-changes-le (has c) (c .args .teams .now) (wants c) (c .args .wteams .now)
 
 skipped : (c : tie.After-skip-to) → Chooses (skip (c .before .before .before)) (c .skip-to .result)
 skipped c =
@@ -37,29 +40,29 @@ skipped c =
 put-requires : tie.Need-put-requires
 put-requires c κs =
     let st = c .before .before .before .before in
-    ready-at (skip st) 10 (skip-le (st .args .s .tick) (st .args .u)) _ (skipped (c .before)) _ 0 (omega (arith, st .pre))
+    ready-at (st .args .s .version) (skip st) 10 (skip-le (st .args .s .tick) (st .args .u)) _ (skipped (c .before) (st .args .s .version)) _ 0 (omega (arith, st .pre .0))
 
 -- after the skip
 first : (c : tie.After-put) → let st = c .before .before .before .before .before in
     PutsBytes (st .args .out .now) 0 (bytesOf (skip st)) (c .put .result) (c .put .last .1 .1 .0)
-first c = rw (skipped (c .before .before) .is) at (c .put .ensures)
+first c = rw (skipped (c .before .before) (c .before .before .before .before .before .args .s .version) .is) at (c .put .ensures)
 
 put-changes-requires : tie.Need-put-changes-requires
 put-changes-requires c κs =
     let n = c .before .before .before in
     let st = n .before .before .before .before .before in
-    let r = second-room (skip st) (change st) 10 9600 (skip-le (st .args .s .tick) (st .args .u)) (changes-le (has st) (wants st))
-    (st .args .out .now) 0 (omega (arith, st .pre)) _ _ (first n) in
-    omega (arith, r)
+    let r = second-room (skip st) (change st) 10 12800 (skip-le (st .args .s .tick) (st .args .u)) (change-le st)
+    (st .args .out .now) 0 (omega (arith, st .pre .0)) _ _ (first n) in
+    (omega (arith, r), st .pre .1)
 
 -- after the changes
 second : (c : tie.After-put-changes) → let st = c .before .before .before .before .before .before .before .before .before in
-    PutsBytes (st .args .out .now) 0 (bytesOf (skip st ++ change st)) (c .put-changes .result) (c .put-changes .last .1 .1 .1 .1 .1 .1 .1 .1 .1 .1 .1 .0)
+    PutsBytes (st .args .out .now) 0 (bytesOf (skip st ++ change st)) (c .put-changes .result) (c .put-changes .last .1 .1 .1 .1 .1 .1 .1 .1 .1 .1 .1 .1 .1 .0)
 second c =
     let n = c .before .before .before .before in
     let st = n .before .before .before .before .before in
-    both-put (skip st) (change st) 10 9600 (skip-le (st .args .s .tick) (st .args .u)) (changes-le (has st) (wants st))
-    (st .args .out .now) 0 (omega (arith, st .pre)) (n .put .result) (n .put .last .1 .1 .0) (first n) (c .put-changes .result) (c .put-changes .last .1 .1 .1 .1 .1 .1 .1 .1 .1 .1 .1 .0)
+    both-put (skip st) (change st) 10 12800 (skip-le (st .args .s .tick) (st .args .u)) (change-le st)
+    (st .args .out .now) 0 (omega (arith, st .pre .0)) (n .put .result) (n .put .last .1 .1 .0) (first n) (c .put-changes .result) (c .put-changes .last .1 .1 .1 .1 .1 .1 .1 .1 .1 .1 .1 .1 .1 .0)
     (c .put-changes .ensures)
 
 -- the last part of the choice
@@ -79,8 +82,8 @@ start-is c =
     ) at (c .start-if .ensures)
 
 -- how many bytes they are
-front-le : (c : tie.Start) → length (bytesOf (skip c ++ change c)) ≤ 9610
-front-le c = bytes-append-le (skip c) (change c) 10 9600 (skip-le (c .args .s .tick) (c .args .u)) (changes-le (has c) (wants c))
+front-le : (c : tie.Start) → length (bytesOf (skip c ++ change c)) ≤ 12810
+front-le c = bytes-append-le (skip c) (change c) 10 12800 (skip-le (c .args .s .tick) (c .args .u)) (change-le c)
 
 last-le : (c : tie.Start) → length (bytesOf (start c)) ≤ 25
 last-le c = start-le (startedBy (c .args .s .inside) (c .args .s .tick) (c .args .u)) (isSome (change c))
@@ -89,16 +92,16 @@ put-requires-2 : tie.Need-put-requires-2
 put-requires-2 c κs =
     let n = c .before .before .before .before .before in
     let st = n .before .before .before .before .before .before .before .before .before in
-    ready-at (start st) 25 (last-le st) _ (start-is (c .before)) _ _
-    (second-room (skip st ++ change st) (start st) 9610 25 (front-le st) (last-le st) (st .args .out .now) 0 (omega (arith, st .pre)) _ _ (second n))
+    ready-at (st .args .s .version) (start st) 25 (last-le st) _ (start-is (c .before) (st .args .s .version)) _ _
+    (second-room (skip st ++ change st) (start st) 12810 25 (front-le st) (last-le st) (st .args .out .now) 0 (omega (arith, st .pre .0)) _ _ (second n))
 
 returns : tie.Need-returns
 unfolding chosen
 returns c =
     let n = c .before .before .before .before .before .before .before .before in
     let st = n .before .before .before .before .before .before .before .before .before in
-    both-put (skip st ++ change st) (start st) 9610 25 (front-le st) (last-le st) (st .args .out .now) 0 (omega (arith, st .pre)) _ _ (second n) _ _
-    (rw (start-is (c .before .before .before .before) .is) at (c .before .before .put2 .ensures))
+    both-put (skip st ++ change st) (start st) 12810 25 (front-le st) (last-le st) (st .args .out .now) 0 (omega (arith, st .pre .0)) _ _ (second n) _ _
+    (rw (start-is (c .before .before .before .before) (st .args .s .version) .is) at (c .before .before .put2 .ensures))
 
 pub put-all-spec : {M : Type 1} → statement M
 put-all-spec =

@@ -37,16 +37,16 @@ put-requires : tie.Need-put-requires Inv-loop μ-loop
 put-requires c κs =
     let st = c .before .before .before .before .before in
     let l = c .before .before .before .loop in
-    turn-ready (steps st) 128 60 (small st) (st .args .out .now) (st .args .at) (st .pre) (l .c) (omega arith) (l .next) (l .out) (l .inv .1) _
-    (c .before .input-choice .ensures [] [] [] [] [] [])
+    turn-ready (steps st) 128 60 (small st) (st .args .out .now) (st .args .at) (st .pre) (l .c) (omega arith) (l .next) (l .out) (l .inv .1) (st .args .version) _
+    (c .before .input-choice .ensures [] [] [] [] [] [] (st .args .version))
 
 loop-again : tie.Need-loop-again Inv-loop μ-loop
 loop-again c =
     let st = c .before .before .before .before .before .before .before .before in
     let l = c .before .before .before .before .before .before .loop in (
       omega arith,
-      turn-put (steps st) 128 60 (small st) (st .args .out .now) (st .args .at) (st .pre) (l .c) (omega arith) (l .next) (l .out) (l .inv .1) _
-          (c .before .before .before .before .input-choice .ensures [] [] [] [] [] []) _ _ (c .before .before .put .ensures),
+      turn-put (steps st) 128 60 (small st) (st .args .out .now) (st .args .at) (st .pre) (l .c) (omega arith) (l .next) (l .out) (l .inv .1) (st .args .version) _
+          (c .before .before .before .before .input-choice .ensures [] [] [] [] [] [] (st .args .version)) _ _ (c .before .before .put .ensures),
     )
 
 same-length : tie.Need-same-length Inv-loop μ-loop

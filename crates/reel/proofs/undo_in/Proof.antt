@@ -22,10 +22,10 @@ kind ns f e = key (getD ns 0 (pos 0)) (record { sfits = f }) e
 -- a number that is no event's
 module _ (ns : List ℤ) where
   none : (z : ℤ) → getD ns 0 (pos 0) ≡ z → (ofZ w32 z ≡ 1 → ⊥) → (ofZ w32 z ≡ 2 → ⊥) → (ofZ w32 z ≡ 3 → ⊥) → (ofZ w32 z ≡ 4 → ⊥)
-      → (ofZ w32 z ≡ 5 → ⊥) → (ofZ w32 z ≡ 6 → ⊥) → (ofZ w32 z ≡ 7 → ⊥) → noEvent ≡ undoIn ns
+      → (ofZ w32 z ≡ 5 → ⊥) → (ofZ w32 z ≡ 6 → ⊥) → (ofZ w32 z ≡ 7 → ⊥) → (ofZ w32 z ≡ 8 → ⊥) → noEvent ≡ undoIn ns
   unfolding undoIn
-  none (pos n) e p1 p2 p3 p4 p5 p6 p7 = rw (e, ne-eqb n 1 p1, ne-eqb n 2 p2, ne-eqb n 3 p3, ne-eqb n 4 p4, ne-eqb n 5 p5, ne-eqb n 6 p6, ne-eqb n 7 p7)
-  none (negsuc n) e p1 p2 p3 p4 p5 p6 p7 = rw e
+  none (pos n) e p1 p2 p3 p4 p5 p6 p7 p8 = rw (e, ne-eqb n 1 p1, ne-eqb n 2 p2, ne-eqb n 3 p3, ne-eqb n 4 p4, ne-eqb n 5 p5, ne-eqb n 6 p6, ne-eqb n 7 p7, ne-eqb n 8 p8)
+  none (negsuc n) e p1 p2 p3 p4 p5 p6 p7 p8 = rw e
 
 -- the first three numbers of its own
 three : (ns : List ℤ) → mag (getD ns 1 (pos 0)) < 2147483648 → mag (getD ns 2 (pos 0)) < 2147483648 → mag (getD ns 3 (pos 0)) < 2147483648
@@ -95,13 +95,23 @@ returns-7 c =
     rw k
 
 returns-8 : tie.Need-returns-8
+unfolding undoIn
 returns-8 c =
+    let m = c .before .before .before in
+    let ns = m .before .before .before .before .args .t1 in
+    let k = kind ns (m .match2 .given) (c .before .before .match .keys8) in
+    let t = three ns (m .before .before .before .cid .given) (m .before .before .x .given) (m .before .y .given) in
+    c .team-row .ensures ∙ rw (t .first, t .second, t .third, element (getD ns 4 (pos 0)) (c .before .team-row-arg .given), k)
+
+returns-9 : tie.Need-returns-9
+returns-9 c =
     let r = c .match .rest in
-    none (c .before .before .before .before .before .args .t1) _ refl (r .0 .0 .0 .0 .0 .0 .1) (r .0 .0 .0 .0 .0 .1) (r .0 .0 .0 .0 .1)
-    (r .0 .0 .0 .1) (r .0 .0 .1) (r .0 .1) (r .1)
+    none (c .before .before .before .before .before .args .t1) _ refl (r .0 .0 .0 .0 .0 .0 .0 .1) (r .0 .0 .0 .0 .0 .0 .1) (r .0 .0 .0 .0 .0 .1)
+    (r .0 .0 .0 .0 .1) (r .0 .0 .0 .1) (r .0 .0 .1) (r .0 .1) (r .1)
 
 pub undo-in-spec : {M : Type 1} → statement M
 undo-in-spec =
     tie.close
     (tie.spec (λ c. search needs) (λ c. search needs) (λ c. search needs) (λ c. search needs) (λ c. search needs)
-    (λ c. search needs) (λ c κs. search needs) returns returns-2 returns-3 returns-4 returns-5 returns-6 returns-7 returns-8)
+    (λ c. search needs) (λ c κs. search needs) (λ c. search needs) (λ c κs. search needs) returns returns-2 returns-3 returns-4 returns-5 returns-6
+    returns-7 returns-8 returns-9)

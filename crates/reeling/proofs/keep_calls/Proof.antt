@@ -12,44 +12,45 @@ use Rattle.reeling.proofs.keep_calls.Statement.{statement}
 use Rattle.reeling.proofs.keep_calls.Tie as tie
 
 abbrev Inv-loop : tie.InvT-loop
-Inv-loop marks₀ xs₀ ys₀ held₀ inputs₀ input₀ former₀ w last most rows₀ tens₀ formers₀ s₀ counts₀ count₀ used₀ marks xs ys held inputs input former rows tens formers s counts count used =
-    Going (calls most (readerWith s₀ (entriesWith marks₀ xs₀ ys₀ held₀ inputs₀)) w last) most w last (reelOf counts₀ rows₀ tens₀ formers₀) s
-    (memory marks xs ys held inputs input former) (reelOf counts rows tens formers) count used
+Inv-loop marks₀ xs₀ ys₀ held₀ inputs₀ teams₀ input₀ former₀ w last most rows₀ tens₀ formers₀ s₀ counts₀ count₀ used₀ marks xs ys held inputs teams input former rows tens formers s counts count used =
+    Going (calls most (readerWith s₀ (entriesWith marks₀ xs₀ ys₀ held₀ inputs₀)) w last) most w last teams₀ (reelOf counts₀ rows₀ tens₀ formers₀) s
+    (memory marks xs ys held inputs input former) teams (reelOf counts rows tens formers) count used
 
 abbrev μ-loop : tie.MeasureT-loop
-μ-loop marks₀ xs₀ ys₀ held₀ inputs₀ input₀ former₀ w last most rows₀ tens₀ formers₀ s₀ counts₀ count₀ used₀ marks xs ys held inputs input former rows tens formers s counts count used =
+μ-loop marks₀ xs₀ ys₀ held₀ inputs₀ teams₀ input₀ former₀ w last most rows₀ tens₀ formers₀ s₀ counts₀ count₀ used₀ marks xs ys held inputs teams input former rows tens formers s counts count used =
     most - count
 
 loop-holds : tie.Need-loop-holds Inv-loop μ-loop
 loop-holds c =
     let a = c .before .args in
-    starts (a .most) (a .w .now) (a .last) (reelOf (a .reel) (a .rows .now) (a .tens .now) (a .formers .now)) (a .scalars)
+    starts (a .most) (a .w .now) (a .last) (a .teams .now) (reelOf (a .reel) (a .rows .now) (a .tens .now) (a .formers .now)) (a .scalars)
     (memory (a .marks .now) (a .xs .now) (a .ys .now) (a .held .now) (a .inputs .now) (a .input .now) (a .former .now)) (c .before .pre .0)
     (c .before .pre .1)
 
 add-used : tie.Need-add-used Inv-loop μ-loop
 add-used c =
-    let o = c .before .before .before .before .before .before .before .before .before .before .before in
+    let o = c .before .before .before .before .before .before .before .before .before .before .before .before .before in
     let t = o .before .before .before .before .before .before .before .before .before in
-    let u = rw (c .before .before .before .before .before .before .before .before .answer .given .1) at (fits (t .before .loop .inv) (t .loop-test .taken) (o .good-call .result) _ (o .good-call .ensures)) in
-    record { fits = omega (arith, u, t .before .before .before .good .1 .1 .1 .1 .1 .1 .1 .1 .0 .0) }
+    let u = rw (c .before .before .before .before .before .before .before .before .before .before .answer .given .1) at (fits (t .before .loop .inv) (t .loop-test .taken) (o .good-call .result) _ (o .good-call .ensures)) in
+    record { fits = omega (arith, u, t .before .before .before .good .1 .1 .1 .1 .1 .1 .1 .1 .1 .0 .0) }
 
 add-count : tie.Need-add-count Inv-loop μ-loop
 add-count c =
-    let t = c .before .before .before .before .before .before .before .before .before .before .before .before .before .before .before .before .before .before .before .before in
+    let t = c .before .before .before .before .before .before .before .before .before .before .before .before .before .before .before .before .before .before .before .before .before .before in
     record { fits = omega (arith, t .loop-test .taken, t .before .before .before .fits .most) }
 
 loop-less : tie.Need-loop-less Inv-loop μ-loop
-loop-less c = omega (arith, c .before .before .before .before .before .before .before .before .before .before .before .before .before .before .before .before .before .before .before .before .loop-test .taken)
+loop-less c = omega (arith, c .before .before .before .before .before .before .before .before .before .before .before .before .before .before .before .before .before .before .before .before .before .before .loop-test .taken)
 
 loop-again : tie.Need-loop-again Inv-loop μ-loop
 loop-again c =
     let k = c .before .keep-lent in
-    let o = c .before .before .before .before .before .before .before .before .before .before .before in
+    let p = c .before .before .before .before .before .before .before .apply in
+    let o = c .before .before .before .before .before .before .before .before .before .before .before .before .before in
     let t = o .before .before .before .before .before .before .before .before .before in
-    let g = c .before .before .before .before .before .before .before .before .answer .given in
-    turn (t .before .loop .inv) (t .loop-test .taken) (o .good-call .result) _ (o .good-call .ensures) (g .0 .0) (g .0 .1 .0)
-    (keptIs (k .result) _ _ _) (g .1) (k .ensures)
+    let g = c .before .before .before .before .before .before .before .before .before .before .answer .given in
+    turn (t .before .loop .inv) (t .loop-test .taken) (o .good-call .result) _ (o .good-call .ensures) (g .0 .0) (g .0 .1 .0) (p .result) _
+    (keptIs (k .result) _ _ _) (g .1) (p .ensures) (k .ensures)
 
 returns : tie.Need-returns Inv-loop μ-loop
 returns c =
@@ -63,7 +64,7 @@ add-stopped c =
     let o = c .before .before .before .before in
     let t = o .before .before .before .before .before .before .before .before .before in
     let u = rw (c .before .answer2 .given .1) at (fits (t .before .loop .inv) (t .loop-test .taken) (o .good-call .result) _ (o .good-call .ensures)) in
-    record { fits = omega (arith, u, t .before .before .before .good .1 .1 .1 .1 .1 .1 .1 .1 .0 .0) }
+    record { fits = omega (arith, u, t .before .before .before .good .1 .1 .1 .1 .1 .1 .1 .1 .1 .0 .0) }
 
 returns-2 : tie.Need-returns-2 Inv-loop μ-loop
 returns-2 c =
@@ -86,7 +87,7 @@ pub keep-calls-spec : {M : Type 1} → statement M
 keep-calls-spec =
     tie.close
     (tie.spec Inv-loop μ-loop loop-holds (λ c. search needs) (λ c. search needs) (λ c. search needs) (λ c κs. tt)
-    (λ c. search needs) (λ c κs. tt) add-used add-count loop-less loop-again (λ c. search needs) (λ c κs. tt)
+    (λ c. search needs) (λ c κs. tt) (λ c κs. tt) add-used add-count loop-less loop-again (λ c. search needs) (λ c κs. tt)
     returns (λ c. search needs) add-stopped (λ c κs. tt)
     returns-2 (λ c. search needs) (λ c κs. tt)
     returns-3 (λ c κs. tt) returns-4)

@@ -6,10 +6,10 @@ use Rattle.rewind.proofs.go_all.Statement.{statement}
 use Rattle.rewind.proofs.go_all.Tie as tie
 
 abbrev Inv-loop : tie.InvT-loop
-Inv-loop rows tens formers step marks₀ xs₀ ys₀ held₀ inputs₀ went₀ calls₀ marks xs ys held inputs went calls = calls ≤ 512
+Inv-loop rows tens formers step teams₀ marks₀ xs₀ ys₀ held₀ inputs₀ went₀ calls₀ teams marks xs ys held inputs went calls = calls ≤ 512
 
 abbrev μ-loop : tie.MeasureT-loop
-μ-loop rows tens formers step marks₀ xs₀ ys₀ held₀ inputs₀ went₀ calls₀ marks xs ys held inputs went calls = calls
+μ-loop rows tens formers step teams₀ marks₀ xs₀ ys₀ held₀ inputs₀ went₀ calls₀ teams marks xs ys held inputs went calls = calls
 
 pub go-all-spec : {M : Type 1} → statement M
 go-all-spec =

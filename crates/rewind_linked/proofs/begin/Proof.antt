@@ -20,7 +20,7 @@ returns c =
     let a = k .before .args in
     λ inputs formers.
     found (a .reader) (reelOf (a .counts) (a .rows .now) inputs formers) (a .tick) _ (sought k inputs formers ∙ c .before .before .newer .given .1) _
-    (c .board-of .ensures)
+    (c .team-board-of .ensures)
 
 returns-2 : tie.Need-returns-2
 returns-2 c =

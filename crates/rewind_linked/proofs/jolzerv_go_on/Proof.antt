@@ -13,13 +13,13 @@ use Rattle.rewind_linked.proofs.jolzerv_go_on.Tie as tie
 returns : tie.Need-returns
 returns c =
     let g = c .before .before .before .before .before .before in
-    let t = g .before .before .before .before .before .before in
+    let t = g .before .before .before .before .before .before .before in
     let f = t .before .before in
     let st = f .before .before .before .before .before in
     let a = st .args in
     let two = a .two .now in
     goes (a .tick) (a .rows .now) (a .inputs .now) (a .formers .now)
-    (entriesWith (a .marks .now) (a .xs .now) (a .ys .now) (a .held .now) (a .numbers .now)) (a .three .now) two (a .events)
+    (entriesWith (a .marks .now) (a .xs .now) (a .ys .now) (a .held .now) (a .numbers .now)) (a .teams .now) (a .three .now) two (a .events)
     _ (back (a .tick) (st .fits .tick))
     _ (t .tick-in .ensures ∙ ap tickIn (element (getD two 0 (pos 0)) (t .before .tick-in-arg .given)))
     _ (f .flag-in .ensures ∙ ap flagIn (element (getD two 1 (pos 0)) (f .before .flag-in-arg .given)))

@@ -17,7 +17,8 @@ returns c =
       counts = read .result .counts;
       reel = read .ensures .reel;
       answer = c .answer-number .ensures ∙ ap (λ (x : Rewound). answerNumber (x .answer)) same;
-      copy = c .before .put-entries .ensures ∙ ap (λ (x : Rewound). x .board .entries) same;
+      copy = c .before .put-copy .ensures .0 ∙ ap (λ (x : Rewound). x .board .board .entries) same;
+      teams = c .before .put-copy .ensures .1 ∙ ap (λ (x : Rewound). x .board .teams) same;
     }
 
 pub jolzerv-rewind-body-spec : {M : Type 1} → statement M

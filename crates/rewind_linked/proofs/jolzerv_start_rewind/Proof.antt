@@ -8,7 +8,7 @@ use Rattle.rewind_linked.proofs.jolzerv_start_rewind.Tie as tie
 
 returns : tie.Need-returns
 returns c =
-    let b = c .before .before .before .before .before .before .before .before .before .before .before in
+    let b = c .before .before .before .before .before .before .before .before .before .before .before .before in
     let read = b .before .before .before .before .read-all in
     let st = b .before .before .before .before .before .before .before .before .before in
     let a = st .args in
@@ -18,7 +18,7 @@ returns c =
     (read .result) (read .last .1 .1 .0) inputs formers (read .ensures)
     _ (back (a .tick) (st .fits .tick)) (b .begin .result) (b .begin .ensures inputs formers)
     (a .three .now) _ (c .put-numbers .ensures .0) (a .two .now) _ (c .put-numbers .ensures .1)
-    _ (c .before .before .before .put-entries .ensures)
+    _ (c .before .before .before .put-copy .ensures .0) _ (c .before .before .before .put-copy .ensures .1)
 
 pub jolzerv-start-rewind-spec : {M : Type 1} → statement M
 jolzerv-start-rewind-spec =

@@ -5,10 +5,10 @@ use Rattle.rewind_vectors.proofs.go_by_seven.Statement.{statement}
 use Rattle.rewind_vectors.proofs.go_by_seven.Tie as tie
 
 abbrev Inv-loop : tie.InvT-loop
-Inv-loop tick rows tens formers marks₀ xs₀ ys₀ held₀ inputs₀ three₀ two₀ number₀ counter₀ marks xs ys held inputs three two number counter = counter ≤ 74
+Inv-loop tick rows tens formers marks₀ xs₀ ys₀ held₀ inputs₀ teams₀ three₀ two₀ number₀ counter₀ marks xs ys held inputs teams three two number counter = counter ≤ 74
 
 abbrev μ-loop : tie.MeasureT-loop
-μ-loop tick rows tens formers marks₀ xs₀ ys₀ held₀ inputs₀ three₀ two₀ number₀ counter₀ marks xs ys held inputs three two number counter = 74 - counter
+μ-loop tick rows tens formers marks₀ xs₀ ys₀ held₀ inputs₀ teams₀ three₀ two₀ number₀ counter₀ marks xs ys held inputs teams three two number counter = 74 - counter
 
 pub go-by-seven-spec : {M : Type 1} → statement M
 go-by-seven-spec =

@@ -4,7 +4,7 @@ use mathlib.Core.Path.{_≡_, ap, _∙_}
 use borrow.Author.Tests.{not-true, not-false}
 use Rattle.state.specs.State.{entriesWith}
 use Rattle.state.proofs.Numbers.{picks-first, picks-second}
-use Rattle.taking.specs.Taking.{takenIs}
+use Rattle.taking.specs.Taking.{teamTakenIs}
 use Rattle.reel.specs.Reel.{reelOf, rowsBefore}
 use Rattle.rewinding.specs.Rewinding.{stepOver, copyOf, rewoundOf}
 use Rattle.rewinding.specs.Walk.{Walked}
@@ -12,13 +12,16 @@ use Rattle.rewinding.proofs.Walks.{walk-over}
 use Rattle.rewinding.proofs.over_newest.Statement.{statement}
 use Rattle.rewinding.proofs.over_newest.Tie as tie
 
+abbrev begun : (c : tie.After-walk-over) → tie.Start
+begun c = c .before .before .before .before .before .before .before .before .before .before .before .before .before .before .before
+
 -- what is left of the board is what stepping over the rows does
-walked : (c : tie.After-walk-over) → let a = c .before .before .before .before .before .before .before .before .before .before .before .before .args in
+walked : (c : tie.After-walk-over) → let a = begun c .args in
     let o = c .walk-over in
-    takenIs (o .result .off) (entriesWith (o .last .1 .0) (o .last .1 .1 .0) (o .last .1 .1 .1 .0) (o .last .1 .1 .1 .1 .0) (o .last .1 .1 .1 .1 .1 .0))
+    teamTakenIs (o .result .off) (entriesWith (o .last .1 .0) (o .last .1 .1 .0) (o .last .1 .1 .1 .0) (o .last .1 .1 .1 .1 .0) (o .last .1 .1 .1 .1 .1 .0)) (o .last .1 .1 .1 .1 .1 .1 .0)
     ≡ stepOver (rowsBefore (reelOf (a .counts) (a .rows .now) (a .tens .now) (a .formers .now)) (a .n) (a .counts .next)) (a .board)
 walked c =
-    let a = c .before .before .before .before .before .before .before .before .before .before .before .before .args in
+    let a = begun c .args in
     ap (λ (w : Walked). w .taken) (c .walk-over .ensures (a .counts))
     ∙ walk-over (reelOf (a .counts) (a .rows .now) (a .tens .now) (a .formers .now)) (a .n) (a .counts .next) 0 (a .board)
 

@@ -25,7 +25,7 @@ returns : tie.Need-returns
 returns c =
     let a = c .before .before .before .before .before .before .args in
     let e = sym (sought (c .before .before .before .before .before)) ∙ c .before .before .before .n .given .1 in
-    rw (c .over-newest .ensures, c .before .board-of .ensures) (ap rewoundOf (found (a .reader) (reelOf (a .counts) (a .rows .now) (a .inputs .now) (a .formers .now)) (a .tick) _ e))
+    rw (c .over-newest .ensures, c .before .team-board-of .ensures) (ap rewoundOf (found (a .reader) (reelOf (a .counts) (a .rows .now) (a .inputs .now) (a .formers .now)) (a .tick) _ e))
 
 returns-2 : tie.Need-returns-2
 returns-2 c =

@@ -17,7 +17,7 @@ returns : tie.Need-returns
 returns c =
     let k = c .before .before .before .before in
     let a = k .before .before .before .before .args in
-    rw (tick-same k) (started (a .reader) (a .reel) (a .tick) _ (sym (c .before .before .newer .given .1) ∙ sought k) _ (c .board-of .ensures))
+    rw (tick-same k) (started (a .reader) (a .reel) (a .tick) _ (sym (c .before .before .newer .given .1) ∙ sought k) _ (c .team-board-of .ensures))
 
 returns-2 : tie.Need-returns-2
 returns-2 c =

@@ -4,7 +4,7 @@ use mathlib.Core.Path.{refl}
 use native.Mathlib.Omega.{arith}
 use borrow.Author.Needs.{needs}
 use Rattle.lines.specs.Lines.{startWord, endWord, newWord, changeWord, oldWord}
-use Rattle.row_lines.proofs.FromRows.{lineBy, plain-put, input-put, record-put}
+use Rattle.row_lines.proofs.FromRows.{lineBy, plain-put, input-put, team-put, record-put}
 use Rattle.row_lines.proofs.put_row.Statement.{statement}
 use Rattle.row_lines.proofs.put_row.Tie as tie
 
@@ -59,6 +59,13 @@ returns-7 : tie.Need-returns-7
 returns-7 c =
     let m = c .before .before .before .before in
     let a = m .before .before .before .args in
+    λ x t room. team-put x (a .i) (a .rows .now) (a .tens .now) t (a .out .now) (a .at) room _ _ (m .match .keys7)
+    (c .before .before .put-team .ensures)
+
+returns-8 : tie.Need-returns-8
+returns-8 c =
+    let m = c .before .before .before .before in
+    let a = m .before .before .before .args in
     λ x t room. record-put x (a .i) (a .rows .now) (a .tens .now) t (a .out .now) (a .at) room _ _ (m .match .rest)
     (c .before .before .put-record .ensures)
 
@@ -71,11 +78,12 @@ put-row-spec =
     (λ c. search needs) (λ c. search needs) (λ c κs. search needs)
     (λ c. search needs) (λ c. search needs) (λ c κs. search needs)
     (λ c. search needs) (λ c. search needs) (λ c κs. search needs)
-    (λ c. search needs) (λ c κs. search needs) (λ c κs. search needs)
+    (λ c. search needs) (λ c κs. search needs) (λ c κs. search needs) (λ c κs. search needs)
     (λ c. search needs) returns
     (λ c. search needs) returns-2
     (λ c. search needs) returns-3
     (λ c. search needs) returns-4
     (λ c. search needs) returns-5
     (λ c. search needs) returns-6
-    (λ c. search needs) returns-7)
+    (λ c. search needs) returns-7
+    (λ c. search needs) returns-8)

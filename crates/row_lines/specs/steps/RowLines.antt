@@ -10,11 +10,11 @@ use Rattle.varint.specs.declared.Wrote.the-variants.{Past, Refused}
 use Rattle.kinds.specs.declared.Cid.{Cid}
 use Rattle.kinds.specs.declared.Cid.the-variants.{Of, NoCid}
 use Rattle.state.specs.State.{sameInt}
-use Rattle.calls.specs.Calls.{Seen}
+use Rattle.team_calls.specs.Lists.{TeamSeen}
 use Rattle.rows.specs.steps.Stores.{InRow, AllInRows}
 use Rattle.lines.specs.steps.Puts.{PutsText}
 use Rattle.lines.specs.Lines.{plainLine, plainMost, recordLine, lineOf, longest, textAnswer, textTarget}
-use Rattle.row_lines.specs.Text.{textOf}
+use Rattle.row_lines.specs.Text.{textOf, eventsIn}
 
 -- the place past what was written, else the place itself
 abbrev pub pastOr : Wrote → ℕ → ℕ
@@ -45,9 +45,9 @@ recordTold rows first =
 -- the line of the event of which row i tells is put where the longest line has room
 abbrev pub PutsLine : List ℤ → List ℤ → ℕ → List ℕ → ℕ → ℕ → List ℕ → Type 0
 PutsLine rows tens i out at next ys =
-    (x : Seen) → InRow x i rows tens → at + longest ≤ length out → PutsText out at (lineOf (x .event) (x .ten)) next ys
+    (x : TeamSeen) → InRow x i rows tens → at + longest ≤ length out → PutsText out at (lineOf (x .seen .event) (x .seen .ten)) next ys
 
 -- and so are those of the first rows, if there are so many
 abbrev pub PutsLines : List ℤ → List ℤ → ℕ → List ℕ → ℕ → List ℕ → Type 0
 PutsLines rows tens count out next ys =
-    (xs : List Seen) → length xs ≡ count → 8 * count ≤ length rows → 20 * count ≤ length tens → AllInRows 0 xs rows tens → longest * count ≤ length out → PutsText out 0 (textOf xs) next ys
+    (xs : List TeamSeen) → length xs ≡ count → 8 * count ≤ length rows → 20 * count ≤ length tens → AllInRows 0 xs rows tens → longest * count ≤ length out → PutsText out 0 (textOf (eventsIn xs)) next ys

@@ -8,6 +8,7 @@ use mir.Val.{toZ, ofZ}
 use borrow.Author.Needs.{needs}
 use Rattle.state.specs.Reading.{Event}
 use Rattle.state.proofs.Numbers.{back, Three}
+use Rattle.teams.specs.declared.Team.{Team}
 use Rattle.rows.specs.Rows.{eventRow, eventTens, put}
 use Rattle.rows.specs.steps.Stores.{Filled}
 use Rattle.rows.proofs.Puts.{put-none}
@@ -19,8 +20,8 @@ abbrev Same : ℤ → Type 0
 Same z = toZ w32 (ofZ w32 z) ≡ z
 
 -- an event without twenty numbers
-row-only : {e : Event} {n pending : ℤ} {i : ℕ} {ten former rows tens end : List ℤ} → eventTens e ten former ≡ []
-    → end ≡ put rows (8 * i) (eventRow e n pending) → Filled e n pending i ten former rows tens end tens
+row-only : {e : Event} {m : Team} {n pending : ℤ} {i : ℕ} {ten former rows tens end : List ℤ} → eventTens e ten former ≡ []
+    → end ≡ put rows (8 * i) (eventRow e m n pending) → Filled e m n pending i ten former rows tens end tens
 row-only {i = i} {tens = tens} none row =
     record { rows = row; tens = sym (ap (put tens (20 * i)) none ∙ put-none tens (20 * i)) }
 

@@ -60,8 +60,11 @@ inside-spec =
     tie.close
     (tie.spec (λ c. search needs) (λ c κs. search needs) (λ c. search needs) (λ c κs. search needs) (λ c. search needs)
     (λ c κs. search needs) (λ c. search needs) (λ c κs. search needs) (λ c. search needs) (λ c κs. search needs)
-    (λ c. search needs) (λ c κs. search needs) (λ c. search needs) (λ c κs. search needs) start
+    (λ c. search needs) (λ c κs. search needs) (λ c. search needs) (λ c κs. search needs) (λ c. search needs)
+    (λ c κs. search needs) start
     (λ c. let st = c .before .before .before in
     rw (c .before .enum-told .given .1) (unfit-in (given st) (st .fits .t) (c .left .ensures) refl)) new change old input
     (λ c. let st = c .before .before .before in
-    rw (c .before .enum-told2 .given .1) (fitting-in (board (In (st .args .t)) (given st)) (given st) (st .fits .t) (c .left2 .ensures) refl)))
+    rw (c .before .enum-told2 .given .1) (fitting-in (board (In (st .args .t)) (given st)) (given st) (st .fits .t) (c .left2 .ensures) refl))
+    (λ c. let st = c .before .before .before in
+    rw (c .before .enum-told3 .given .1) (fitting-in (board (In (st .args .t)) (given st)) (given st) (st .fits .t) (c .left3 .ensures) refl)))

@@ -18,10 +18,11 @@ outside-spec =
     tie.close
     (tie.spec (λ c. search needs) (λ c κs. search needs) (λ c. search needs) (λ c κs. search needs) (λ c. search needs)
     (λ c κs. search needs) (λ c. search needs) (λ c κs. search needs) (λ c. search needs) (λ c κs. search needs)
-    (λ c. search needs) (λ c κs. search needs) (λ c. search needs) (λ c κs. search needs)
+    (λ c. search needs) (λ c κs. search needs) (λ c. search needs) (λ c κs. search needs) (λ c. search needs) (λ c κs. search needs)
     (λ c input former e. rw (c .before .enum-told .given .1) (unfit e (c .left .ensures) refl)) returns-2
     (λ c input former e. rw (c .before .enum-told2 .given .1) (unfit e (c .left2 .ensures) refl))
     (λ c input former e. rw (c .before .enum-told3 .given .1) (unfit e (c .left3 .ensures) refl))
     (λ c input former e. rw (c .before .enum-told4 .given .1) (unfit e (c .left4 .ensures) refl))
     (λ c input former e. rw (c .before .enum-told5 .given .1) (unfit e (c .left5 .ensures) refl))
-    (λ c input former e. rw (c .before .enum-told6 .given .1) (unfit e (c .left6 .ensures) refl)))
+    (λ c input former e. rw (c .before .enum-told6 .given .1) (unfit e (c .left6 .ensures) refl))
+    (λ c input former e. rw (c .before .enum-told7 .given .1) (unfit e (c .left7 .ensures) refl)))

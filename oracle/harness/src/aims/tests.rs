@@ -10,7 +10,7 @@ use generator::Sort;
 fn all_is_made() {
     let mut written = [0; 2];
     let mut refused = [0; 24];
-    let mut causes = [0; 4];
+    let mut causes = [0; 6];
     for index in 0..400 {
         let input = generator::input(Sort::Match, 1, index);
         let other = generator::input(Sort::Inputs, 1, index);

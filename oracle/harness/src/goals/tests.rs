@@ -8,13 +8,14 @@ use crate::changes::What;
 use crate::entries::Entries;
 use crate::entries::Held;
 use crate::entries::Player;
+use crate::entries::Team;
 use crate::entries::Wanted;
 use crate::framed::parted;
 use crate::stand::Stand;
 
 #[test]
 fn read_as_written() {
-    let line = "7 0147:258 0240 tick:-1,x:127:5,outside";
+    let line = "7 0147:258 0240 tick:-1,x:127:5,outside,team:5:-2";
     let (input, goal) = Goal::listed(line).expect("a goal");
     assert_eq!(input, [0x01, 0x47]);
     assert_eq!((goal.room, goal.events, goal.to_events), (7, 258, ALL));
@@ -24,14 +25,16 @@ fn read_as_written() {
     let tick = [6, 14, 0, 255, 255, 255, 255];
     let x = [6, 11, 127, 5, 0, 0, 0];
     let outside = [6, 15, 0, 0, 0, 0, 0];
+    let team = [6, 16, 5, 1, 0, 0, 0, 6, 17, 5, 254, 255, 255, 255];
     let parts = [
-        &[49, 0, 0][..],
+        &[63, 0, 0][..],
         &numbers,
         &inputs,
-        &[21, 0, 0],
+        &[35, 0, 0],
         &tick,
         &x,
         &outside,
+        &team,
     ];
     assert_eq!(case, parts.concat());
     let (inner, rest) = parted(&case).expect("a case");
@@ -73,6 +76,11 @@ fn refused() {
         "much 01 same inputs:0:1:2:3:4:5:6:7:8:9",
         "much 01 same number:0:10:1",
         "much 01 same gone",
+        "much 01 same team:0",
+        "much 01 same team:256:1",
+        "much 01 same teamless:0:1",
+        "much 01 same teammark:0",
+        "much 01 same teamnumber:0:2147483648",
         "much 01 same tick:1,",
         "aimed:x 01 01",
     ] {
@@ -86,7 +94,7 @@ fn refused() {
     assert!(Goal::read(&case(&[numbers, none, none])).is_none());
     assert!(Goal::read(&case(&[none, none, none, none])).is_none());
     assert!(Goal::read(&case(&[numbers, none, none, none, &[0]])).is_none());
-    let strange: &[u8] = &[7, 0, 0, 6, 16, 0, 0, 0, 0, 0];
+    let strange: &[u8] = &[7, 0, 0, 6, 18, 0, 0, 0, 0, 0];
     assert!(Goal::read(&case(&[numbers, none, none, strange])).is_none());
 }
 
@@ -98,12 +106,17 @@ fn changes_make_the_board() {
     };
     from.entries.players[3] = Player::at(1, 2);
     from.entries.inputs[4] = Held::of([5; 10]);
+    from.entries.teams[4] = Team::of(0);
+    from.entries.teams[5] = Team::of(1);
     let mut to = from.clone();
     assert_eq!(between(&from, &to), []);
     to.tick = Some(0);
     to.entries.players[3] = Player::at(1, 3);
     to.entries.players[127] = Player::at(0, 9);
     to.entries.inputs[4].ten[8] = i32::MIN;
+    to.entries.teams[3] = Team::of(0);
+    to.entries.teams[4] = Team::of(6);
+    to.entries.teams[5] = Team::default();
     let one = |what, client, number| Change {
         what,
         client,
@@ -112,7 +125,11 @@ fn changes_make_the_board() {
     let changes = [
         one(What::Tick, 0, 0),
         one(What::Y, 3, 3),
+        one(What::TeamMark, 3, 1),
         one(What::Number(8), 4, i32::MIN),
+        one(What::TeamNumber, 4, 6),
+        one(What::TeamMark, 5, 0),
+        one(What::TeamNumber, 5, 0),
         one(What::Mark, 127, 1),
         one(What::Y, 127, 9),
     ];

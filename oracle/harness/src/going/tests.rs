@@ -98,6 +98,22 @@ fn reel() {
     assert_eq!(reading.board(&oldest), "board 0\n");
 }
 
+/// The rewind program with a STEP, over teams: start 0, 5 in 1, 5 in 2, end 0.
+#[test]
+fn teams() {
+    let team = "4aa111c04e1ea838e090b1d7f993ca0da902";
+    let input = input(&["02", team, "0501", team, "0502", "40"].concat());
+    let calls = [
+        "board 0\nteam 5 2\ngoing\n",
+        "board 0\nteam 5 1\ngoing\n",
+        "board 0\nended\n",
+    ];
+    assert_eq!(rewound(&input, 0, 1, None), calls.concat());
+    assert_eq!(rewound(&input, 0, 2, None), [calls[1], calls[2]].concat());
+    assert_eq!(rewound(&input, 0, 3, None), calls[2]);
+    assert_eq!(rewound(&input, 0, 1, Some(2)), calls[2]);
+}
+
 /// The rewind program with a STEP.
 #[test]
 fn rewinds() {

@@ -6,10 +6,13 @@ use crate::changes::Change;
 use crate::goals::Goal;
 use crate::goals::ALL;
 use crate::records::bytes;
+use crate::stand::Stand;
 
 const TEN: &str = "01 02 03 04 05 06 07 08 09 0a";
 const TENS: &str = "1:2:3:4:5:6:7:8:9:10";
 const NULLS: &str = "0:0:0:0:0:0:0:0:0:0";
+/// Kind -11 and the identifier of PlayerTeam; a payload's length, a client and a team follow.
+const TEAM: &str = "4a a1 11 c0 4e 1e a8 38 e0 90 b1 d7 f9 93 ca 0d a9";
 
 fn input(parts: &[&str]) -> Vec<u8> {
     let digits: String = parts.join(" ").split(' ').collect();
@@ -126,6 +129,100 @@ fn players() {
     reaches(&[body, "02 00 00"], "gone:5", "4305 1");
 }
 
+/// A PlayerTeam for each client whose team is another one, behind all else; a tick needs nothing more to start it.
+#[test]
+fn teams() {
+    let record = |numbers: &str| [TEAM, numbers].concat().replace(' ', "");
+    let one = record("02 05 01");
+    reaches(&["02"], "tick:0 team:5:1", &format!("{one} 2"));
+    reaches(&["02"], "tick:1 team:5:1", &format!("4100{one} 2"));
+    reaches(&["02 47 00"], "team:5:1", &format!("{one} 1"));
+    reaches(&["02 47 00"], "team:5:1 tick:1", &format!("4100{one} 3"));
+    for (number, written) in [
+        (0, "02 05 00"),
+        (-1, "02 05 40"),
+        (i32::MIN, "06 05 ff ff ff ff 0f"),
+        (i32::MAX, "06 05 bf ff ff ff 0f"),
+    ] {
+        let wanted = format!("{} 1", record(written));
+        reaches(&["02 47 00"], &format!("team:5:{number}"), &wanted);
+    }
+    let members = ["02", TEAM, "02 05 01", TEAM, "03 bf 01 00"];
+    reaches(&members, "", "- 0");
+    reaches(&members, "team:5:1 team:127:0", "- 0");
+    reaches(&members, "tick:1", "41004940000000 3");
+    reaches(
+        &members,
+        "teamnumber:127:7",
+        &format!("{} 1", record("03 bf 01 07")),
+    );
+    let both = [record("02 05 00"), record("03 bf 01 01")].concat();
+    reaches(&members, "team:127:1 team:5:0", &format!("{both} 2"));
+    let all = ["42010203", "4505", &"00".repeat(10), &record("02 04 02")].concat();
+    reaches(
+        &members,
+        &format!("team:4:2 inputs:5:{NULLS} player:1:2:3"),
+        &format!("{all} 3"),
+    );
+    // a client who has left, or never came, and clients at or below the remembered one
+    let gone = ["02 42 05 00 00", TEAM, "02 05 01 41 00 43 05"];
+    reaches(&gone, "team:5:2", &format!("{} 1", record("02 05 02")));
+    reaches(&gone, "team:4:2", &format!("{} 1", record("02 04 02")));
+    // who has a team keeps one, and version 1 has none
+    for client in [5, 127] {
+        let lost = format!("teamless:{client}");
+        unreachable(&members, &lost, &[Cause::Team]);
+        unreachable(&members, &format!("tick:9 {lost}"), &[Cause::Team]);
+        unreachable(&members, &format!("{lost} team:6:1"), &[Cause::Team]);
+        let wanted = format!("tick:0 team:{client}:0");
+        unreachable(&["01"], &wanted, &[Cause::Version]);
+    }
+    reaches(&["01"], "tick:0 teamless:5", "4940000000 2");
+}
+
+/// Bytes that leave other teams lead elsewhere.
+#[test]
+fn arrivals() {
+    let stand = Stand::of(&input(&["02 47 00"]), u64::MAX);
+    let wanted = own("team:5:1").wanted(&stand);
+    let arrives = |parts: &[&str]| stand.arrives(&input(parts), &wanted);
+    assert_eq!(arrives(&[TEAM, "02 05 01"]), Some(1));
+    assert_eq!(arrives(&[TEAM, "02 05 02", TEAM, "02 05 01"]), Some(2));
+    assert_eq!(stand.arrives(&[], &wanted), None);
+    for other in ["02 05 02", "02 04 01", "02 40 01"] {
+        assert_eq!(arrives(&[TEAM, other]), None, "{other}");
+        let both = arrives(&[TEAM, "02 05 01", TEAM, other]);
+        let is_aside = other.starts_with("02 40");
+        assert_eq!(both, is_aside.then_some(2), "{other}");
+    }
+}
+
+/// A mark other than 0 and 1, of which all four bytes count, and a number without a team.
+#[test]
+fn bad_teams() {
+    for body in ["01", "02", "02 40", "02 42 05"] {
+        for change in [
+            "teammark:0:2",
+            "teammark:127:-1",
+            "teammark:5:256",
+            "teammark:5:257",
+            "teammark:5:-2147483648",
+            "teamnumber:127:1",
+            "teamnumber:0:-2147483648",
+            "team:5:1 teammark:5:0",
+        ] {
+            reaches(&[body], &format!("tick:0 {change}"), "refused 17");
+        }
+    }
+    reaches(
+        &["02"],
+        "tick:0 teammark:5:0 teamnumber:127:0",
+        "4940000000 2",
+    );
+    let wanted = [TEAM, "02 05 00"].concat().replace(' ', "");
+    reaches(&["02"], "tick:0 teammark:5:1", &format!("{wanted} 2"));
+}
+
 #[test]
 fn differences_wrap() {
     let body = "01 42 00 ff ff ff ff 0f bf ff ff ff 0f 41 00";
@@ -145,6 +242,16 @@ fn several_causes() {
         &["01 42 05 00 00 45 05", TEN],
         "gone:5 lost:5",
         &[Cause::Inputs, Cause::Player],
+    );
+    unreachable(
+        &["02 42 05 00 00", TEAM, "02 05 01"],
+        "gone:5 teamless:5",
+        &[Cause::Team, Cause::Player],
+    );
+    unreachable(
+        &["01 42 05 00 00 41 00 05 00 00"],
+        "tick:0 team:5:1",
+        &[Cause::Tick, Cause::Version],
     );
 }
 
@@ -240,99 +347,144 @@ fn another_board() {
 }
 
 /// A version, a tick, a largest client, a pending kind and its client, open or not, inside or not; a client, its position, its inputs;
-/// the remembered client. Numbers are 100 more.
+/// a client, the mark and the number of its team; the remembered client. Numbers are 100 more.
 #[test]
 fn by_hand() {
     for (reader, changes, wanted) in [
         (
-            "00 01 64 63 00 64 00 00 00 00 64 64 00 00 64 ff",
+            "00 01 64 63 00 64 00 00 00 00 64 64 00 00 64 00 64 64 ff",
             "tick:0",
             "4940000000",
         ),
-        ("00 01 69 63 00 64 00 01 05 01 65 66 00 00 64 05", "", "-"),
         (
-            "00 01 69 63 00 64 00 01 05 01 65 66 00 00 64 04",
+            "00 01 69 63 00 64 00 01 05 01 65 66 00 00 64 00 64 64 05",
+            "",
+            "-",
+        ),
+        (
+            "00 01 69 63 00 64 00 01 05 01 65 66 00 00 64 00 64 64 04",
             "x:5:3",
             "050200",
         ),
         (
-            "00 01 69 63 00 64 00 01 05 01 65 66 00 00 64 05",
+            "00 01 69 63 00 64 00 01 05 01 65 66 00 00 64 00 64 64 05",
             "x:5:3",
             "refused 23",
         ),
         (
-            "00 01 69 63 00 64 00 01 05 01 65 66 00 00 64 fe",
+            "00 01 69 63 00 64 00 01 05 01 65 66 00 00 64 00 64 64 fe",
             "player:127:1:1",
             "refused 23",
         ),
         (
-            "00 01 69 63 00 64 00 00 05 01 65 66 00 00 64 05",
+            "00 01 69 63 00 64 00 00 05 01 65 66 00 00 64 00 64 64 05",
             "tick:5 x:5:3",
             "050200",
         ),
         (
-            "00 01 69 63 00 64 00 01 05 00 64 64 01 09 65 ff",
+            "00 01 69 63 00 64 00 01 05 00 64 64 01 09 65 00 64 64 ff",
             "held:5:0 number:5:9:0",
             "refused 23",
         ),
         // bad: the tick, the largest client, a mark, a number of nobody's, the pending kinds
         (
-            "00 01 63 63 00 64 00 00 00 00 64 64 00 00 64 ff",
+            "00 01 63 63 00 64 00 00 00 00 64 64 00 00 64 00 64 64 ff",
             "tick:0",
             "refused 17",
         ),
         (
-            "00 01 64 62 00 64 00 00 00 00 64 64 00 00 64 ff",
+            "00 01 64 62 00 64 00 00 00 00 64 64 00 00 64 00 64 64 ff",
             "tick:0",
             "refused 17",
         ),
         (
-            "00 01 64 63 00 64 00 00 05 02 64 64 00 00 64 ff",
+            "00 01 64 63 00 64 00 00 05 02 64 64 00 00 64 00 64 64 ff",
             "tick:0",
             "refused 17",
         ),
         (
-            "00 01 64 63 00 64 00 00 05 00 64 65 00 00 64 ff",
+            "00 01 64 63 00 64 00 00 05 00 64 65 00 00 64 00 64 64 ff",
             "tick:0 gone:5",
             "refused 17",
         ),
         (
-            "00 01 64 63 00 64 00 00 05 00 64 64 00 00 65 ff",
+            "00 01 64 63 00 64 00 00 05 00 64 64 00 00 65 00 64 64 ff",
             "tick:0 lost:5",
             "refused 17",
         ),
         (
-            "00 01 64 63 01 63 00 00 00 00 64 64 00 00 64 ff",
+            "00 01 64 63 01 63 00 00 00 00 64 64 00 00 64 00 64 64 ff",
             "tick:0",
             "refused 17",
         ),
         (
-            "00 01 64 63 03 64 00 00 00 00 64 64 00 00 64 ff",
+            "00 01 64 63 03 64 00 00 00 00 64 64 00 00 64 00 64 64 ff",
             "tick:0",
             "refused 17",
         ),
         // pending, closed and pending
         (
-            "00 02 64 63 03 64 00 00 00 00 64 64 00 00 64 ff",
+            "00 02 64 63 03 64 00 00 00 00 64 64 00 00 64 00 64 64 ff",
             "tick:0",
             "refused 22",
         ),
         (
-            "00 01 64 63 02 63 00 00 00 00 64 64 00 00 64 ff",
+            "00 01 64 63 02 63 00 00 00 00 64 64 00 00 64 00 64 64 ff",
             "tick:0",
             "refused 22",
         ),
         (
-            "00 01 64 63 02 63 01 00 00 00 64 64 00 00 64 ff",
+            "00 01 64 63 02 63 01 00 00 00 64 64 00 00 64 00 64 64 ff",
             "tick:0",
             "refused 18",
         ),
         (
-            "00 01 64 63 00 64 02 00 00 00 64 64 00 00 64 ff",
+            "00 01 64 63 00 64 02 00 00 00 64 64 00 00 64 00 64 64 ff",
             "tick:0",
             "refused 18",
         ),
     ] {
         reaches(&[reader], changes, wanted);
+    }
+}
+
+/// The same with teams; without the last bytes nobody has one, and client 0 is remembered.
+#[test]
+fn teams_by_hand() {
+    let reader = |version: &str, last: &str| {
+        let head = "69 63 00 64 00 01 05 01 65 66 00 00 64";
+        format!("00 {version} {head} {last}")
+    };
+    let five = |team: &str| [TEAM, "02 05", team].concat().replace(' ', "");
+    for (version, last, changes, wanted) in [
+        ("02", "05 65 67 ff", "", "-"),
+        ("02", "05 65 67 ff", "team:5:3", "-"),
+        ("02", "05 65 67 ff", "team:5:4", &five("04")),
+        ("02", "05 65 ff ff", "", "-"),
+        ("02", "05 65 ff ff", "team:5:-2147483648", "-"),
+        ("02", "7f 65 64 ff", "teamless:127", "refused 23"),
+        ("02", "7f 65 64 ff", "team:5:0", &five("00")),
+        ("02", "80 66 64 ff", "", "-"),
+        ("02", "ff 66 64 ff", "", "-"),
+        ("02", "05 64 64 ff", "team:5:0", &five("00")),
+        // version 1, with a team and without
+        ("01", "05 65 67 ff", "", "refused 23"),
+        ("01", "05 65 67 ff", "teamless:5", "refused 23"),
+        ("01", "05 64 64 ff", "", "-"),
+        // bad: marks of 2, -1 and the least number, a number of nobody's
+        ("02", "05 66 64 ff", "teamless:5", "refused 17"),
+        ("02", "05 63 64 ff", "teamless:5", "refused 17"),
+        ("02", "05 ff 64 ff", "teamless:5", "refused 17"),
+        ("02", "00 64 65 ff", "teamless:0", "refused 17"),
+        // cut
+        ("02", "", "", "-"),
+        ("02", "", "player:0:1:1", "refused 23"),
+        ("02", "", "x:5:3", "050200"),
+        ("02", "05", "teamless:5", "refused 17"),
+        ("02", "05 65", "teamnumber:5:-100", "-"),
+        ("02", "05 65 67", "x:5:3", "050200"),
+    ] {
+        let reader = reader(version, last);
+        reaches(&[reader.trim_end()], changes, wanted);
     }
 }

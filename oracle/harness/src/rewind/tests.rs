@@ -7,6 +7,8 @@ use crate::records::bytes;
 const TEN: &str = "01 02 03 04 05 06 07 08 09 0a";
 const ONES: &str = "01 40 01 40 01 40 01 40 01 40";
 const ZEROS: &str = "00 00 00 00 00 00 00 00 00 00";
+/// Kind -11 and the identifier of PlayerTeam; a payload's length, a client and a team follow.
+const TEAM: &str = "4a a111c04e 1ea838e0 90b1d7f9 93ca0da9";
 
 fn input(parts: &[&str]) -> Vec<u8> {
     let digits: String = parts.concat().split(' ').collect();
@@ -100,6 +102,36 @@ fn boards() {
         "board 0\nended\n\
          board 1\nplayer 2 5 6\nplayer 127 7 8\ninput 2 0 0 0 0 0 0 0 0 0 0\ninput 9 1 2 3 4 5 6 7 8 9 10\nended\n\
          board 2\nplayer 127 7 8\ninput 2 0 0 0 0 0 0 0 0 0 0\ninput 9 2 1 4 3 6 5 8 7 10 9\nended\n",
+    );
+}
+
+/// Teams last, rising by client; each as it was when the tick started. PlayerOld leaves them.
+#[test]
+fn teams() {
+    rewinds(
+        &[
+            "02 42 02 05 06",
+            TEAM,
+            "03 bf 01 07",
+            TEAM,
+            "02 02 00 41 00 43 02",
+            TEAM,
+            "02 02 40",
+            TEAM,
+            "02 40 09 45 09",
+            TEN,
+            "41 00",
+            TEAM,
+            "03 bf 01 08 41 00",
+            TEAM,
+            "03 80 02 08 40",
+        ],
+        None,
+        &[0, 1, 2, 3],
+        "board 0\nended\n\
+         board 1\nplayer 2 5 6\nteam 2 0\nteam 127 7\nended\n\
+         board 2\ninput 9 1 2 3 4 5 6 7 8 9 10\nteam 2 -1\nteam 127 7\nended\n\
+         board 3\ninput 9 1 2 3 4 5 6 7 8 9 10\nteam 2 -1\nteam 127 8\nended\n",
     );
 }
 

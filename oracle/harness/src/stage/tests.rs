@@ -8,6 +8,8 @@ use crate::scripts::Script;
 const FIRST: &str = "01 41 02 42 00 0a 14 00 01 40 40";
 const TEN: &str = "01 02 03 04 05 06 07 08 09 0a";
 const ONES: &str = "01 40 01 40 01 40 01 40 01 40";
+/// Kind -11 and the identifier of PlayerTeam; a payload's length, a client and a team follow.
+const TEAM: &str = "4a a111c04e 1ea838e0 90b1d7f9 93ca0da9";
 
 fn input(parts: &[&str]) -> Vec<u8> {
     let digits: String = parts.concat().split(' ').collect();
@@ -39,7 +41,7 @@ fn blank() {
         &[
             ("go:0:0", "refused 20"),
             ("board:1:1", "board -\nrefused 20"),
-            ("look:2:0", "tick -\nnowhere\nno inputs"),
+            ("look:2:0", "tick -\nnowhere\nno inputs\nteam -"),
             ("start:0:3", "refused 20"),
             ("read:1", ""),
             ("start:0:4", "refused 20"),
@@ -61,7 +63,7 @@ fn first_listing() {
             ("read:3", ""),
             ("start:1:3", "started"),
             ("start:2:4", "started"),
-            ("look:1:0", "tick 4\nat 11 19\nno inputs"),
+            ("look:1:0", "tick 4\nat 11 19\nno inputs\nteam -"),
             ("board:1:1", "board 4\nplayer 0 10 20\ngoing"),
             ("board:1:1", "board -\nplayer 0 10 20\ngoing"),
             ("go:2:0", "going"),
@@ -73,12 +75,12 @@ fn first_listing() {
             ("board:0:1", "board 3\nended"),
             ("go:0:0", "ended"),
             ("start:0:3", "started"),
-            ("look:0:0", "tick -\nat 11 19\nno inputs"),
+            ("look:0:0", "tick -\nat 11 19\nno inputs\nteam -"),
             ("start:0:5", "refused 20"),
-            ("look:0:0", "tick -\nat 11 19\nno inputs"),
-            ("look:1:0", "tick -\nat 10 20\nno inputs"),
-            ("look:1:1", "tick -\nnowhere\nno inputs"),
-            ("look:1:-1", "tick -\nnowhere\nno inputs"),
+            ("look:0:0", "tick -\nat 11 19\nno inputs\nteam -"),
+            ("look:1:0", "tick -\nat 10 20\nno inputs\nteam -"),
+            ("look:1:1", "tick -\nnowhere\nno inputs\nteam -"),
+            ("look:1:-1", "tick -\nnowhere\nno inputs\nteam -"),
         ],
     );
 }
@@ -95,16 +97,65 @@ fn refused_later() {
             ("read:1", ""),
             ("start:1:0", "refused 18"),
             ("splits:2:0", "refused 18"),
-            ("look:0:127", "tick 0\nat 7 8\nno inputs"),
-            ("look:1:9", "tick 0\nnowhere\nhas 2 1 4 3 6 5 8 7 10 9"),
+            ("look:0:127", "tick 0\nat 7 8\nno inputs\nteam -"),
+            (
+                "look:1:9",
+                "tick 0\nnowhere\nhas 2 1 4 3 6 5 8 7 10 9\nteam -",
+            ),
             ("go:0:2", "going"),
-            ("look:0:9", "tick 0\nnowhere\nhas 1 2 3 4 5 6 7 8 9 10"),
+            (
+                "look:0:9",
+                "tick 0\nnowhere\nhas 1 2 3 4 5 6 7 8 9 10\nteam -",
+            ),
             ("board:0:1", "board 0\nended"),
             ("read:9", ""),
             (
                 "board:1:0",
                 "board 0\nplayer 127 7 8\ninput 9 2 1 4 3 6 5 8 7 10 9\ngoing",
             ),
+        ],
+    );
+}
+
+/// start 0, the teams 5 in 1, 5 in 2 and 127 in -1, end 0, start 1, 5 in 0, 128 in 7: the former teams come back.
+#[test]
+fn teams() {
+    let body = [
+        "02",
+        TEAM,
+        "02 05 01",
+        TEAM,
+        "02 05 02",
+        TEAM,
+        "03 bf 01 40 41 00",
+        TEAM,
+        "02 05 00",
+        TEAM,
+        "03 80 02 07 4b",
+    ];
+    tells(
+        &input(&body),
+        &[
+            ("look:0:5", "tick -\nnowhere\nno inputs\nteam -"),
+            ("read:8", ""),
+            ("start:0:0", "started"),
+            ("start:1:1", "started"),
+            ("look:0:5", "tick 1\nnowhere\nno inputs\nteam 0"),
+            ("look:0:127", "tick 1\nnowhere\nno inputs\nteam -1"),
+            ("look:0:128", "tick 1\nnowhere\nno inputs\nteam -"),
+            ("look:0:-1", "tick 1\nnowhere\nno inputs\nteam -"),
+            ("board:0:1", "board 1\nteam 5 0\nteam 127 -1\ngoing"),
+            ("board:0:1", "board 1\nteam 5 2\nteam 127 -1\ngoing"),
+            ("board:0:1", "board -\nteam 5 2\nteam 127 -1\ngoing"),
+            ("board:0:1", "board 0\nteam 5 2\nteam 127 -1\ngoing"),
+            ("board:0:1", "board 0\nteam 5 2\ngoing"),
+            ("board:0:1", "board 0\nteam 5 1\ngoing"),
+            ("look:0:5", "tick 0\nnowhere\nno inputs\nteam 1"),
+            // refused 4
+            ("read:1", ""),
+            ("board:0:1", "board 0\nended"),
+            ("look:0:5", "tick 0\nnowhere\nno inputs\nteam -"),
+            ("board:1:9", "board 1\nteam 5 2\nteam 127 -1\nended"),
         ],
     );
 }

@@ -22,7 +22,7 @@ pub fn bodies() -> Vec<Body> {
     let mut list = Vec::new();
     // the record begins so many bytes behind the version byte
     for begin in WINDOW - FINISH - 2..=WINDOW + 2 {
-        let filled = fill(before(), 1 + begin).player_finish(5, 19);
+        let filled = before().filled(1 + begin).player_finish(5, 19);
         list.push(
             filled
                 .skip(0)
@@ -37,22 +37,13 @@ pub fn bodies() -> Vec<Body> {
     }
     // the payload runs out, and a whole window comes behind it
     let short = before().int(EXTENSION).raw(PLAYER_FINISH).ints(&[1, 5]);
-    list.push(fill(short, 2 * WINDOW));
+    list.push(short.filled(2 * WINDOW));
     // three windows with finishes throughout
-    let through = |body, time| {
-        fill(body, WINDOW / 2 * time as usize)
+    let through = |body: Body, time| {
+        body.filled(WINDOW / 2 * time as usize)
             .player_finish(5, 20 - time)
             .player_finish(128, time)
     };
     list.push((1..7).fold(before(), through).finish());
     list
-}
-
-/// Joins up to so many bytes.
-fn fill(body: Body, size: usize) -> Body {
-    let odd = (size - body.len()) % 2 == 1;
-    // a client of two bytes makes a Join of three
-    let body = if odd { body.join(64) } else { body };
-    let left = size - body.len();
-    body.raw(&Body::bare().join(0).done().repeat(left / 2))
 }

@@ -1,0 +1,4 @@
+pub mod Above
+pub mod Slims
+pub mod Never
+pub mod Theorems

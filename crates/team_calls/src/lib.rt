@@ -1,0 +1,1 @@
+// Reading calls with teams: definitions and what holds of them. No code.

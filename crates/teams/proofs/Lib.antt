@@ -1,0 +1,4 @@
+pub mod Joins
+pub mod Teams
+pub mod Puts
+pub mod Theorems

@@ -1,0 +1,3 @@
+pub mod Teams
+pub mod Laws
+pub mod steps
