@@ -1,7 +1,7 @@
 -- What holds of the choice of records, as statements; proofs/Theorems.antt proves each. docs/FORMAT.md, "From a wanted board to a recording".
 use Prim.Native.Nat.{ℕ, _≤_}
 use mathlib.Core.Path.{_≡_}
-use mathlib.Core.Bool.{Bool, true, false}
+use mathlib.Core.Bool.{true, false}
 use mathlib.Core.List.{List, []}
 use lib.ListN.{length, getD}
 use lib.IntN.{ℤ, pos}

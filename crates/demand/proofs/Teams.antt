@@ -1,7 +1,7 @@
 -- Teams over lists of events, the last first: had back by stepping back, and told by the last PlayerTeam. Assumes nothing.
 use Prim.Native.Nat.{ℕ, _<_}
 use mathlib.Core.Path.{_≡_, refl, sym, ap, _∙_}
-use mathlib.Core.Bool.{Bool, true, false, cond, _&&_}
+use mathlib.Core.Bool.{Bool, true, false, cond}
 use mathlib.Core.List.{List, [], _∷_, map}
 use native.Mathlib.Omega.{arith}
 use lib.Dec.{ltb}
@@ -12,22 +12,21 @@ use Rattle.refusal.specs.declared.Refusal.{Refusal}
 use Rattle.state.specs.State.{sameInt}
 use Rattle.state.specs.Reading.{Event}
 use Rattle.state.proofs.Numbers.{picks-first}
-use Rattle.teams.specs.Teams.{teamOf, isIn, putTeam, goodTeams, noTeams, Joining, joins, nobody, joiningOf, teamsAfter, formerTeam}
+use Rattle.teams.specs.Teams.{teamOf, Joining, joins, nobody, joiningOf, teamsAfter, formerTeam}
 use Rattle.teams.specs.Laws.{SoundTeams}
-use Rattle.teams.specs.declared.Team.{Team}
 use Rattle.teams.specs.declared.Team.the-variants.{Number, NoTeam}
-use Rattle.teams.proofs.Theorems.{no-teams-none, no-teams-sound, teams-stay-sound, team-set, others-stay, teams-go-back}
+use Rattle.teams.proofs.Theorems.{teams-stay-sound, team-set, others-stay, teams-go-back}
 use Rattle.calls.specs.Calls.{Seen}
-use Rattle.team_calls.specs.Lists.{TeamSeen, teamSeen, teamsSoFar, formersSoFar}
+use Rattle.team_calls.specs.Lists.{TeamSeen, teamsSoFar, formersSoFar}
 use Rattle.team_calls.proofs.Above.{so-far-sound}
 use Rattle.back.specs.Board.{goodBoard}
 use Rattle.back.specs.Back.{Back, takeOff, stepBack}
 use Rattle.back.specs.Back as back
 use Rattle.back.specs.TeamBoard.{teamBoard, goodTeamBoard, TeamBack, was, refused, beside, fitsTeams, teamsBefore, takeOffTeam, teamStepBack}
 use Rattle.back.specs.declared.Board.{Board}
-use Rattle.demand.specs.Events.{backOne, backOver}
-use Rattle.demand.specs.TeamEvents.{teamBackOne, teamBackOver, teamAfterOne, lastTeam}
-use Rattle.demand.proofs.Tests.{same-refl, same-true}
+use Rattle.demand.specs.Events.{backOver}
+use Rattle.demand.specs.TeamEvents.{teamBackOver, teamAfterOne, lastTeam}
+use Rattle.demand.proofs.Tests.{same-true}
 
 -- ---- one event
 

@@ -3,11 +3,11 @@ use Prim.Native.Nat.{ℕ, _<_}
 use mathlib.Core.Path.{_≡_}
 use mathlib.Core.Bool.{false}
 use mathlib.Core.List.{List, _++_, map}
-use lib.IntN.{ℤ, pos}
+use lib.IntN.{pos}
 use Rattle.kinds.specs.declared.Version.{Version}
 use Rattle.teams.specs.Teams.{teamOf, emptyTeamReader}
 use Rattle.teams.specs.declared.TeamReader.{TeamReader}
-use Rattle.calls.specs.Calls.{Call, Seen}
+use Rattle.calls.specs.Calls.{Call}
 use Rattle.team_calls.specs.Lists.{TeamSeen, teamAfter, teamEvents}
 use Rattle.back.specs.TeamBoard.{teamBoardOf, was}
 use Rattle.demand.specs.Boards.{Told}

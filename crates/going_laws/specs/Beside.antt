@@ -16,7 +16,6 @@ use Rattle.team_calls.specs.Lists.{teamAfter, teamEvents}
 use Rattle.back.specs.TeamBoard.{teamBoardOf}
 use Rattle.back.specs.declared.TeamBoard.{TeamBoard}
 use Rattle.reel.specs.Reel.{emptyReel}
-use Rattle.reel.specs.declared.Reel.{Reel}
 use Rattle.reeling.specs.Reeling.{reelAfter}
 use Rattle.rewinding.specs.Rewinding.{closedByRefusal}
 use Rattle.rewinding.specs.declared.Sought.{Sought}

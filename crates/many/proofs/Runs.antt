@@ -118,12 +118,12 @@ module _ (s : Scalars) (m : Memory) (w : List ℕ) (last : Bool) (sound : Sound 
     former-is : (t : List ℤ) → formerTeam (seen .event) t ≡ formerTeam (eventIs v) t
     former-is t = sym (slim-former (given .event) t) ∙ ap (λ (d : Event). formerTeam d t) (given .own)
 
-    pub goes-on : {run : Run} {count used : ℕ} {t₀ rows₀ tens₀ t₁ rows₁ tens₁ : List ℤ} (k : ℕ) (rows₂ tens₂ : List ℤ)
+    pub goes-on : {run : Run} {count used : ℕ} {t₀ rows₀ tens₀ t₁ rows₁ tens₁ : List ℤ} (k : ℕ) (t₂ rows₂ tens₂ : List ℤ)
         → Room (count + 1) rows₁ tens₁ → Behind run (calls (suc k) (readerOf s m) w last) count used t₀ rows₀ tens₀ t₁ rows₁ tens₁
-        → EventPut (eventIs v) (formerTeam (eventIs v) t₁) n (flag (isPending (s .pending))) count (m' .input) (m' .former) rows₁ tens₁ rows₂ tens₂
-        → Behind run (calls k (readerOf (o .scalars) m') (drop n w) last) (count + 1) (used + n) t₀ rows₀ tens₀ (teamsAfter (eventIs v) t₁) rows₂ tens₂
-    goes-on {count = count} {t₁ = t₁} {rows₁ = rows₁} {tens₁ = tens₁} k rows₂ tens₂ room b p =
+        → EventPut (eventIs v) n (flag (isPending (s .pending))) count (m' .input) (m' .former) t₁ rows₁ tens₁ t₂ rows₂ tens₂
+        → Behind run (calls k (readerOf (o .scalars) m') (drop n w) last) (count + 1) (used + n) t₀ rows₀ tens₀ t₂ rows₂ tens₂
+    goes-on {count = count} {t₁ = t₁} {rows₁ = rows₁} {tens₁ = tens₁} k t₂ rows₂ tens₂ room b p =
         let f = placed (omega (arith, room .rows, room .tens)) p in
         let team = formerTeam (eventIs v) t₁ in
-        rw (f .rows, f .tens, ← row-is team, ← tens-are team, ← former-is t₁, ← teams-are t₁)
+        rw (f .teams, f .rows, f .tens, ← row-is team, ← tens-are team, ← former-is t₁, ← teams-are t₁)
         (one-more seen _ (rw (goes-to s m w last sound o m' e v n a k) at b))

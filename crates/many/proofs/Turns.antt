@@ -19,8 +19,7 @@ use Rattle.state.specs.declared.Scalars.{Scalars}
 use Rattle.state.specs.declared.Event as code
 use Rattle.state.specs.declared.Answer.the-variants as answers
 use Rattle.state.specs.declared.Outcome.{Outcome}
-use Rattle.teams.specs.Teams.{teamReader, teamsAfter, formerTeam}
-use Rattle.teams.specs.declared.Team.{Team}
+use Rattle.teams.specs.Teams.{teamReader}
 use Rattle.calls.specs.Calls.{isPending}
 use Rattle.calls.specs.Along.{Run, along, calls}
 use Rattle.rows.specs.Rows.{flag}
@@ -82,20 +81,19 @@ module _ {run : Run} {room : ℕ} {w : List ℕ} {last : Bool} {t₀ rows₀ ten
         pub fits : used + usedIn (saidIs (o .answer)) ≤ length w
         fits = omega (arith, uses s m (drop used w) last (g .sound) o m' call, length-drop used w, g .within)
 
-        pub turn : (v : code.Event) (n : ℕ) (former : Team) (t₂ rows₂ tens₂ : List ℤ) → o .answer ≡ answers.Event v n
-            → (former ≡ formerTeam (eventIs v) t₁) × (t₂ ≡ teamsAfter (eventIs v) t₁)
-            → EventPut (eventIs v) former n (flag (isPending (s .pending))) count (m' .input) (m' .former) rows₁ tens₁ rows₂ tens₂
+        pub turn : (v : code.Event) (n : ℕ) (t₂ rows₂ tens₂ : List ℤ) → o .answer ≡ answers.Event v n
+            → EventPut (eventIs v) n (flag (isPending (s .pending))) count (m' .input) (m' .former) t₁ rows₁ tens₁ t₂ rows₂ tens₂
             → length rows₂ ≡ length rows₁ → length tens₂ ≡ length tens₁ → Room (count + 1) rows₁ tens₁
             → Going run room w last t₀ rows₀ tens₀ (o .scalars) m' (count + 1) (used + n) t₂ rows₂ tens₂
         unfolding left
-        turn v n former t₂ rows₂ tens₂ a f p x y there =
+        turn v n t₂ rows₂ tens₂ a p x y there =
             record {
               most = omega arith;
               within = rw a at fits;
               rows = x ∙ g .rows;
               tens = y ∙ g .tens;
               sound = stays-sound s m (drop used w) last (g .sound) o m' call;
-              behind = rw (f .1) (rw drop-drop at (goes-on s m (drop used w) last (g .sound) o m' call v n a left rows₂ tens₂ there next (rw (f .0) at p)));
+              behind = rw drop-drop at (goes-on s m (drop used w) last (g .sound) o m' call v n a left t₂ rows₂ tens₂ there next p);
             }
 
         pub more : o .answer ≡ answers.More

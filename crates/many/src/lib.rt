@@ -91,8 +91,7 @@ fn read_rows(
         s = next;
         match answer {
             Answer::Event { event, used: n } => {
-                let team = teams::apply(teams, event);
-                rows::put_event(event, team, n, pending, count, rows, tens, input, former);
+                rows::put_event(event, n, pending, count, teams, rows, tens, input, former);
                 used += n;
                 count += 1;
             }

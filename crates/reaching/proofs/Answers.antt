@@ -2,9 +2,8 @@
 use mathlib.Core.Path.{_≡_, refl, sym, _∙_, ap}
 use mathlib.Core.Bool.{Bool, true, false, cond}
 use mathlib.Core.List.{List}
-use Prim.Native.Nat.{ℕ, _<_}
-use lib.IntN.{ℤ, pos}
-use Rattle.num.proofs.Cases.{by-bool}
+use Prim.Native.Nat.{ℕ}
+use lib.IntN.{ℤ}
 use Rattle.refusal.specs.declared.Refusal.{Refusal}
 use Rattle.varint.specs.Written.{written, wroteSaid}
 use Rattle.varint.specs.steps.Writing.{wrote}
@@ -14,8 +13,7 @@ use Rattle.varint.proofs.Theorems.{writers-say}
 use Rattle.kinds.specs.Kinds.{hasEx}
 use Rattle.kinds.specs.declared.Version.{Version}
 use Rattle.kinds.specs.declared.Version.the-variants.{V2}
-use Rattle.teams.specs.Teams.{numberOf, hasTeam, teamOf}
-use Rattle.teams.specs.declared.Team.{Team}
+use Rattle.teams.specs.Teams.{numberOf, hasTeam}
 use Rattle.teams.specs.declared.Team.the-variants.{Number, NoTeam}
 use Rattle.teams.specs.declared.TeamReader.{TeamReader}
 use Rattle.back.specs.Board.{board}

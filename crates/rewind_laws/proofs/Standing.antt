@@ -6,15 +6,14 @@ use Prim.Native.Nat.{ℕ}
 use Rattle.item.specs.Said.{Said, gives, more, finish, refuses}
 use Rattle.kinds.specs.declared.Version.{Version}
 use Rattle.state.specs.State.{Memory, withEntries, emptyReader}
-use Rattle.state.specs.Reading.{Event, Step, isClosed, readCall, readerAfter}
+use Rattle.state.specs.Reading.{Event, Step, isClosed, readerAfter}
 use Rattle.state.specs.Laws.{SaidLeaves}
-use Rattle.state.specs.Acts.{Act, ReadAct}
+use Rattle.state.specs.Acts.{ReadAct}
 use Rattle.state.specs.Acts as act
 use Rattle.state.specs.steps.Parts.{memoryOf}
 use Rattle.state.specs.declared.Standing.{Standing}
 use Rattle.state.specs.declared.Standing.the-variants as standings
 use Rattle.state.specs.declared.Scalars.{Scalars}
-use Rattle.state.specs.declared.Entries.{Entries}
 use Rattle.state.specs.declared.Reader.{Reader}
 use Rattle.state.proofs.Acts.{read-acts}
 use Rattle.state.proofs.Calls.{keeps}

@@ -26,13 +26,13 @@ use Rattle.teams.specs.Teams.{Joining, joins, nobody, joiningIn}
 use Rattle.teams.specs.declared.Team.{Team}
 use Rattle.team_calls.specs.Lists.{TeamSeen}
 use Rattle.back.specs.TeamBoard.{TeamBack, was, refused, goodTeamBoard, takeOffTeam, teamStepBack}
-use Rattle.back.specs.Undo.{undoOf, undoJoining, undone, formerIn}
+use Rattle.back.specs.Undo.{undoOf, undone, formerIn}
 use Rattle.back.specs.declared.TeamBoard.{TeamBoard}
 use Rattle.back.proofs.Teams.{team-undone}
-use Rattle.demand.specs.TeamEvents.{teamBackOne, teamBackOver}
+use Rattle.demand.specs.TeamEvents.{teamBackOver}
 use Rattle.reel.specs.Reel.{Row, ofInput}
 use Rattle.reeling.specs.Laws.{rowOf}
-use Rattle.rewinding.specs.Rewinding.{isStart, Newer, newer, gone, oneNewer, newerThan, backRow, stepOver}
+use Rattle.rewinding.specs.Rewinding.{isStart, Newer, newer, gone, oneNewer, newerThan, stepOver}
 
 -- ---- the newest TickStart
 

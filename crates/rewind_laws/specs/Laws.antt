@@ -2,7 +2,7 @@
 -- docs/FORMAT.md, "Rewinding".
 use Prim.Native.Nat.{ℕ}
 use mathlib.Core.Path.{_≡_}
-use mathlib.Core.Bool.{Bool, true, false, cond}
+use mathlib.Core.Bool.{Bool, false, cond}
 use mathlib.Core.List.{List, [], _∷_, map}
 use lib.ListN.{length, take}
 use lib.Dec.{ltb}
@@ -17,7 +17,6 @@ use Rattle.back.specs.TeamBoard.{TeamBack, was, refused, teamBoardOf}
 use Rattle.back.specs.Undo.{undoOf}
 use Rattle.back.specs.declared.TeamBoard.{TeamBoard}
 use Rattle.reel.specs.Reel.{rowsOf, emptyReel}
-use Rattle.reel.specs.declared.Reel.{Reel}
 use Rattle.reeling.specs.Reeling.{reelAfter}
 use Rattle.reeling.specs.Laws.{rowOf}
 use Rattle.rewinding.specs.Rewinding.{isStart, closedByRefusal, rewindTo}

@@ -1,9 +1,7 @@
 -- The statements of specs/Laws.antt. Assumes nothing.
 use mathlib.Core.Path.{_≡_, refl, ap, _∙_}
-use mathlib.Core.Bool.{cond}
 use mathlib.Core.List.{List, [], _∷_, _++_}
 use lib.IntN.{ℤ}
-use Rattle.refusal.specs.declared.Refusal.the-variants.{Closed}
 use Rattle.kinds.specs.declared.Version.{Version}
 use Rattle.teams.specs.Teams.{teamsAfter, teamReader, emptyTeamReader}
 use Rattle.teams.specs.Laws.{SoundTeams}
@@ -11,18 +9,15 @@ use Rattle.teams.specs.declared.TeamReader.{TeamReader}
 use Rattle.teams.proofs.Theorems.{no-teams-sound, teams-stay-sound}
 use Rattle.calls.specs.Calls.{Call, Seen}
 use Rattle.team_calls.specs.Lists.{nextTeam, teamEventOf, teamAfter, teamsOver, withFormers}
-use Rattle.back.specs.TeamBoard.{TeamBack, refused}
 use Rattle.demand.proofs.Theorem.{team-after-append}
 use Rattle.reel.specs.Reel.{emptyReel}
 use Rattle.reel.specs.declared.Reel.{Reel}
 use Rattle.windows.specs.Windows.{windowOf, isLastWindow}
 use Rattle.reeling.specs.Reeling.{keepAll, reelAfter}
 use Rattle.reeling.proofs.Theorems.{kept-calls-are-lists}
-use Rattle.rewinding.specs.Rewinding.{closedByRefusal, rewindTo}
-use Rattle.rewind_laws.specs.Laws.{hadAfter, ifAmong512}
 use Rattle.rewind_laws.proofs.Theorems.{rewinds-to-tick}
 use Rattle.rewind_turns.specs.Turns.{turnKept}
-use Rattle.rewind_turns.specs.Laws.{Hand, Left, turnsAfter, AreCalls, TurnsAreCalls, TurnsRewind}
+use Rattle.rewind_turns.specs.Laws.{Left, turnsAfter, TurnsAreCalls, TurnsRewind}
 
 reel-append : (l : Reel) (r : TeamReader) (a b : List Call) → reelAfter l r (a ++ b) ≡ reelAfter (reelAfter l r a) (teamAfter r a) b
 unfolding reelAfter teamAfter

@@ -9,7 +9,6 @@ use lib.IntN.{ℤ, pos}
 use borrow.Author.Tests.{lt-ltb, le-ltb}
 use Rattle.num.specs.Wrap.{wrap32}
 use Rattle.state.specs.Reading.{Event}
-use Rattle.teams.specs.declared.Team.{Team}
 use Rattle.rows.specs.Rows.{put, room}
 use Rattle.rows.specs.steps.Stores.{Filled, EventPut}
 
@@ -24,22 +23,26 @@ put-none l at =
     rw e (take-append-drop at l)
 
 -- event i, where there is room for it
-pub placed : {e : Event} {m : Team} {used : ℕ} {pending : ℤ} {i : ℕ} {ten former rows₀ tens₀ rows₁ tens₁ : List ℤ} → i < room rows₀ tens₀
-    → EventPut e m used pending i ten former rows₀ tens₀ rows₁ tens₁ → Filled e m (wrap32 (pos used)) pending i ten former rows₀ tens₀ rows₁ tens₁
+pub placed : {e : Event} {used : ℕ} {pending : ℤ} {i : ℕ} {ten former t₀ rows₀ tens₀ t₁ rows₁ tens₁ : List ℤ} → i < room rows₀ tens₀
+    → EventPut e used pending i ten former t₀ rows₀ tens₀ t₁ rows₁ tens₁
+    → Filled e (wrap32 (pos used)) pending i ten former t₀ rows₀ tens₀ t₁ rows₁ tens₁
 placed {i = i} {rows₀ = rows₀} {tens₀ = tens₀} h p =
     let t = lt-ltb i (room rows₀ tens₀) h in
-    record { rows = rw t at (p .rows); tens = rw t at (p .tens) }
+    record { teams = rw t at (p .teams); rows = rw t at (p .rows); tens = rw t at (p .tens) }
 
-pub fits : {e : Event} {m : Team} {used : ℕ} {pending : ℤ} {i : ℕ} {ten former rows₀ tens₀ rows₁ tens₁ : List ℤ} → i < room rows₀ tens₀
-    → Filled e m (wrap32 (pos used)) pending i ten former rows₀ tens₀ rows₁ tens₁ → EventPut e m used pending i ten former rows₀ tens₀ rows₁ tens₁
+pub fits : {e : Event} {used : ℕ} {pending : ℤ} {i : ℕ} {ten former t₀ rows₀ tens₀ t₁ rows₁ tens₁ : List ℤ} → i < room rows₀ tens₀
+    → Filled e (wrap32 (pos used)) pending i ten former t₀ rows₀ tens₀ t₁ rows₁ tens₁
+    → EventPut e used pending i ten former t₀ rows₀ tens₀ t₁ rows₁ tens₁
 fits {i = i} {rows₀ = rows₀} {tens₀ = tens₀} h f =
     let t = lt-ltb i (room rows₀ tens₀) h in
-    record { rows = rw t (f .rows); tens = rw t (f .tens) }
+    record { teams = rw t (f .teams); rows = rw t (f .rows); tens = rw t (f .tens) }
 
 -- where there is none
-pub no-room : {e : Event} {m : Team} {used : ℕ} {pending : ℤ} {i : ℕ} {ten former rows tens : List ℤ} → room rows tens ≤ i
-    → EventPut e m used pending i ten former rows tens rows tens
-no-room {i = i} {rows = rows} {tens = tens} h = let t = le-ltb i (room rows tens) h in record { rows = rw t; tens = rw t }
+pub no-room : {e : Event} {used : ℕ} {pending : ℤ} {i : ℕ} {ten former t rows tens : List ℤ} → room rows tens ≤ i
+    → EventPut e used pending i ten former t rows tens t rows tens
+no-room {i = i} {rows = rows} {tens = tens} h =
+    let t = le-ltb i (room rows tens) h in
+    record { teams = rw t; rows = rw t; tens = rw t }
 
 -- the numbers with what stands before them, then the rest
 apart : (l : List ℤ) (at n : ℕ) (ns : List ℤ) → length ns ≡ n → (take at l ++ ns) ++ drop (at + n) l ≡ put l at ns

@@ -133,20 +133,20 @@ fn put_tens(tens: &mut [i32], i: usize, input: [i32; 10], former: [i32; 10])
     put_ten(tens, at + 10, former);
 }
 
-// Event i in its places; n is the number of bytes that its call used.
+// Event i in its places, and the teams after it; n is the number of bytes that its call used.
 fn fill(
     event: Event,
-    team: Team,
     n: i32,
     pending: i32,
     i: usize,
+    teams: &mut [i32; 256],
     rows: &mut [i32],
     tens: &mut [i32],
     input: &[i32; 10],
     former: &[i32; 10],
 )
     requires { ⌜ (8 * i + 8 ≤ length (now rows)) × (20 * i + 20 ≤ length (now tens)) ⌝ }
-    ensures { λ _. ⌜ Filled (eventIs event) team n pending i (now (input .entry)) (now (former .entry)) (now (rows .entry)) (now (tens .entry)) (now (rows .exit)) (now (tens .exit)) ⌝ }
+    ensures { λ _. ⌜ Filled (eventIs event) n pending i (now (input .entry)) (now (former .entry)) (now (teams .entry)) (now (rows .entry)) (now (tens .entry)) (now (teams .exit)) (now (rows .exit)) (now (tens .exit)) ⌝ }
 {
     match event {
         Event::TickStart(t) => put_row(rows, i, 1, n, t, 0, 0, 0, 0),
@@ -164,34 +164,37 @@ fn fill(
             put_row(rows, i, 6, n, cid, flag_of(had), 0, 0, 0);
             put_tens(tens, i, *input, *former);
         }
-        Event::Record(item) => put_record(item, team, n, pending, rows, i),
+        Event::Record(item) => {
+            let team = teams::apply(teams, event);
+            put_record(item, team, n, pending, rows, i);
+        }
     }
 }
 
-// Event i in its places, if there is room for it; team is the former one beside a PlayerTeam; its call used so many bytes; pending is a number
-// of its row.
+// Event i in its places, and the teams after it, if there is room for it; its call used so many bytes; pending is a number of its row. Only a
+// record is handed to the teams: other events would be copied for nothing.
 pub fn put_event(
     event: Event,
-    team: Team,
     used: usize,
     pending: i32,
     i: usize,
+    teams: &mut [i32; 256],
     rows: &mut [i32],
     tens: &mut [i32],
     input: &[i32; 10],
     former: &[i32; 10],
 )
-    ensures { λ _. ⌜ EventPut (eventIs event) team used pending i (now (input .entry)) (now (former .entry)) (now (rows .entry)) (now (tens .entry)) (now (rows .exit)) (now (tens .exit)) ⌝ }
+    ensures { λ _. ⌜ EventPut (eventIs event) used pending i (now (input .entry)) (now (former .entry)) (now (teams .entry)) (now (rows .entry)) (now (tens .entry)) (now (teams .exit)) (now (rows .exit)) (now (tens .exit)) ⌝ }
 {
     if room_for(rows.len(), tens.len()) <= i {
         return;
     }
     fill(
         event,
-        team,
         wrapped(used),
         pending,
         i,
+        teams,
         rows,
         tens,
         input,

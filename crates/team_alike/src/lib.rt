@@ -1,8 +1,8 @@
 // States with teams for test programs: whether two readers or two boards are the same; readers made of the bytes of a case.
 ghost use mathlib.Core.Path.{_≡_};
 ghost use mathlib.Core.Bool.{_&&_};
-ghost use Rattle.state.specs.State.{sameInt, every};
-ghost use Rattle.alike.specs.Alike.{sameNumber, sameEntries, sameScalars, sameCid, boardTick, readerIn};
+ghost use Rattle.state.specs.State.{every};
+ghost use Rattle.alike.specs.Alike.{sameNumber, sameEntries, sameScalars, sameCid, boardTick};
 ghost use Rattle.team_alike.specs.TeamAlike.{teamAt, teamsIn, teamReaderIn};
 use back::TeamBoard;
 use teams::TeamReader;

@@ -2,7 +2,7 @@
 -- event. docs/FORMAT.md, "The replay program".
 use Prim.Native.Nat.{ℕ, zero, suc}
 use mathlib.Core.Bool.{Bool, true, false, cond}
-use mathlib.Core.List.{List, [], _∷_, _++_, flatMap}
+use mathlib.Core.List.{List, [], _++_, flatMap}
 use lib.Dec.{ltb}
 use lib.ListN.{length, take}
 use lib.IntN.{ℤ}

@@ -23,7 +23,7 @@ abbrev μ-loop : tie.MeasureT-loop
 
 -- where the event that is put was given
 abbrev given : tie.After-tens Inv-loop μ-loop → tie.After-answer Inv-loop μ-loop
-given c = c .before .before .before .before .before .before .before .before .before .before
+given c = c .before .before .before .before .before .before .before .before .before
 
 loop-holds : tie.Need-loop-holds Inv-loop μ-loop
 loop-holds c =
@@ -55,7 +55,7 @@ loop-again c =
     let p = given c .before .before .before .before .before .before .before .before .before .before .before .before .pending-flag in
     let j : toZ w32 (ofZ w32 (p .result)) ≡ p .result = search needs in
     let pre = t .before .before .before .pre .1 in
-    turn (t .before .loop .inv) (t .loop-test .taken) (o .good-call .result) _ (o .good-call .ensures) (g .0 .0) (g .0 .1 .0) _ _ _ _ (g .1) (c .before .before .before .before .before .before .before .apply .ensures)
+    turn (t .before .loop .inv) (t .loop-test .taken) (o .good-call .result) _ (o .good-call .ensures) (g .0 .0) (g .0 .1 .0) _ _ _ (g .1)
     (rw (j, p .ensures) at (c .before .before .put-event .ensures)) (c .before .rows .given) (c .tens .given)
     (record {
       rows = omega (arith, t .loop-test .taken, pre .rows, t .before .loop .inv .rows);
@@ -97,7 +97,7 @@ pub read-rows-spec : {M : Type 1} → statement M
 read-rows-spec =
     tie.close
     (tie.spec Inv-loop μ-loop loop-holds (λ c κs. tt) (λ c. search needs) (λ c. search needs) (λ c. search needs) (λ c κs. tt)
-    (λ c. search needs) (λ c κs. tt) (λ c κs. tt) add-used add-count loop-less loop-again (λ c. search needs) (λ c κs. tt)
+    (λ c. search needs) (λ c κs. tt) add-used add-count loop-less loop-again (λ c. search needs) (λ c κs. tt)
     (λ c. c .before .before .before .before .before .before .before .before .before .before .before .before .before .before .before .loop .inv .rows)
     (λ c. c .before .before .before .before .before .before .before .before .before .before .before .before .before .before .before .loop .inv .tens)
     returns (λ c. search needs) add-stopped (λ c κs. tt)

@@ -16,7 +16,7 @@ returns c = no-room (omega (arith, c .before .room-for .ensures, c .if1 .taken))
 
 returns-2 : tie.Need-returns-2
 returns-2 c =
-    let w = c .before .before .before .before .before in
+    let w = c .before .before .before .before .before .before in
     let st = w .before .before .before in
     let n : toZ w32 (ofZ w32 (w .wrapped .result)) ≡ w .wrapped .result = search needs in
     let h : st .args .i < room (st .args .rows .now) (st .args .tens .now) = omega (arith, w .before .before .room-for .ensures, w .before .if1 .left) in

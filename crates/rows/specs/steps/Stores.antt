@@ -8,18 +8,20 @@ use lib.ListN.{length, take, drop}
 use lib.IntN.{ℤ, pos}
 use Rattle.num.specs.Wrap.{wrap32}
 use Rattle.state.specs.Reading.{Event}
-use Rattle.teams.specs.declared.Team.{Team}
+use Rattle.teams.specs.Teams.{teamsAfter, formerTeam}
 use Rattle.team_calls.specs.Lists.{TeamSeen}
 use Rattle.rows.specs.Rows.{eventRow, rowOf, eventTens, tensOf, put, room}
 
--- event i is in its places, m the former team beside it; the row has n for the bytes that its call used
-pub record Filled (e : Event) (m : Team) (n pending : ℤ) (i : ℕ) (ten former rows₀ tens₀ rows₁ tens₁ : List ℤ) : Type 0 where
-  pub rows : rows₁ ≡ put rows₀ (8 * i) (eventRow e m n pending)
+-- event i is in its places, and the teams are those after it; the row has n for the bytes that its call used
+pub record Filled (e : Event) (n pending : ℤ) (i : ℕ) (ten former t₀ rows₀ tens₀ t₁ rows₁ tens₁ : List ℤ) : Type 0 where
+  pub teams : t₁ ≡ teamsAfter e t₀
+  pub rows : rows₁ ≡ put rows₀ (8 * i) (eventRow e (formerTeam e t₀) n pending)
   pub tens : tens₁ ≡ put tens₀ (20 * i) (eventTens e ten former)
 
--- event i, whose call used so many bytes, is in its places if there is room for it
-pub record EventPut (e : Event) (m : Team) (used : ℕ) (pending : ℤ) (i : ℕ) (ten former rows₀ tens₀ rows₁ tens₁ : List ℤ) : Type 0 where
-  pub rows : rows₁ ≡ cond (ltb i (room rows₀ tens₀)) (put rows₀ (8 * i) (eventRow e m (wrap32 (pos used)) pending)) rows₀
+-- event i, whose call used so many bytes, is in its places if there is room for it, and the teams are those after it
+pub record EventPut (e : Event) (used : ℕ) (pending : ℤ) (i : ℕ) (ten former t₀ rows₀ tens₀ t₁ rows₁ tens₁ : List ℤ) : Type 0 where
+  pub teams : t₁ ≡ cond (ltb i (room rows₀ tens₀)) (teamsAfter e t₀) t₀
+  pub rows : rows₁ ≡ cond (ltb i (room rows₀ tens₀)) (put rows₀ (8 * i) (eventRow e (formerTeam e t₀) (wrap32 (pos used)) pending)) rows₀
   pub tens : tens₁ ≡ cond (ltb i (room rows₀ tens₀)) (put tens₀ (20 * i) (eventTens e ten former)) tens₀
 
 -- row i tells of an event that was seen, and so do its twenty numbers
