@@ -1,5 +1,7 @@
 // States for test programs: whether two readers or two boards are the same, by which is seen that a call changes nothing; readers made of
 // the bytes of a case, where a number is 100 more than it stands for.
+#![tactic(auto)]
+
 ghost use Rattle.std.specs.Prelude.{◌≡◌, ◌≤◌, length, get_or, eqb, ◌&&◌};
 ghost use Rattle.state.specs.State.{same_int, every, no_entries};
 ghost use Rattle.alike.specs.Alike.{

@@ -1,4 +1,6 @@
 // The arguments that stand beside a command that a reading call gave: the call leaves them out, and they are read again here.
+#![tactic(auto)]
+
 ghost use Rattle.std.specs.Prelude.{◌≡◌};
 ghost use Rattle.item.specs.Contents.{no_args};
 ghost use Rattle.kinds.specs.steps.Kinds.{is_command};

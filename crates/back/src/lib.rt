@@ -1,4 +1,6 @@
 // The board of a reader, and what a step back has to know of an event.
+#![tactic(auto)]
+
 ghost use Rattle.std.specs.Prelude.{◌≡◌, List, ℤ};
 ghost use Rattle.state.specs.Views.{event_is};
 ghost use Rattle.teams.specs.Teams.{team_of};
@@ -14,7 +16,7 @@ use state::{Entries, Event, Reader};
 use teams::{Joining, Team, TeamReader};
 
 // The tick that was started, or none.
-#[derive(Drop)]
+#[derive(Clone, Copy)]
 pub enum BoardTick {
     In(i32),
     NoTick,
@@ -33,7 +35,7 @@ pub struct TeamBoard {
     pub teams: [i32; 256],
 }
 
-#[derive(Drop)]
+#[derive(Clone, Copy)]
 pub enum BackAnswer {
     Back,
     Refused(Refusal),
@@ -48,7 +50,7 @@ pub struct SteppedBack {
 
 // What a step back has to know of an event; the ten numbers of an input and the former ten stand beside it. Of a PlayerTeam: the client, its
 // team and the former one.
-#[derive(Drop)]
+#[derive(Clone, Copy)]
 pub enum Undo {
     Start(i32),
     End(i32),

@@ -7,6 +7,8 @@
 // a tick or not, the tick, client 5 there or not, the event's three numbers, of which the second of an input is the place of a number to change
 // and the third of a PlayerTeam the former team; where client 5 is not there, the entries, as alike::entries_in takes them; teams, as
 // team_alike::teams_in takes them, or none. A number is 100 more than it stands for.
+#![tactic(auto)]
+
 use back::{BackAnswer, Board, BoardTick, TeamBoard};
 use item::Item;
 use kinds::Version;

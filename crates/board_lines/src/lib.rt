@@ -1,4 +1,6 @@
 // The lines of a board that was rewound, written into a lent buffer at a place.
+#![tactic(auto)]
+
 ghost use Rattle.std.specs.Prelude.{◌≡◌, ℕ, ◌+◌, ◌*◌, ◌≤◌, ◌<◌, cond, List, [], ◌∷◌, eqb, leb, ℤ, pos, length};
 ghost use Rattle.state.specs.State.{present, holds, ten_of, entries_with};
 ghost use Rattle.teams.specs.Teams.{has_team};

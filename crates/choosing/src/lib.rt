@@ -1,4 +1,6 @@
 // Which records bring a reader to a wanted board: one place of the choice after the other.
+#![tactic(auto)]
+
 ghost use Rattle.std.specs.Prelude.{◌≡◌, true, [], pos};
 ghost use Rattle.fields.specs.Views.{zeros};
 ghost use Rattle.kinds.specs.declared.Version.{Version};

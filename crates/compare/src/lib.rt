@@ -1,4 +1,6 @@
 // Numbers of entries compared with those of an event.
+#![tactic(auto)]
+
 ghost use Rattle.std.specs.Prelude.{◌≡◌, ◌&&◌, eqb};
 ghost use Rattle.std.specs.Int.Signed.{non_neg};
 ghost use Rattle.state.specs.State.{same_int};

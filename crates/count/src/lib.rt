@@ -1,5 +1,7 @@
 // What counting the events of a body takes: by single calls (count_each), by calls on lent memory (count_lent), by calls of many events
 // (count_many).
+#![tactic(auto)]
+
 ghost use Rattle.std.specs.Prelude.{◌+◌, min, ◌≡◌};
 ghost use Rattle.state.specs.Slim.{said_is};
 ghost use Rattle.count.specs.Count.{version_if, used_by};
@@ -8,7 +10,7 @@ use kinds::Version;
 use state::Answer;
 
 // The bytes that the event of a call used, if it gave one.
-#[derive(Drop)]
+#[derive(Clone, Copy)]
 pub enum Used {
     Bytes(usize),
     NoEvent,

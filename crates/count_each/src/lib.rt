@@ -1,5 +1,7 @@
 // How many events a body has, by single calls, for C and Rust programs to link. A library of its own: with one caller of the core call
 // the compiler makes the two one.
+#![tactic(auto)]
+
 ghost use Rattle.std.specs.Prelude.{◌≡◌};
 ghost use Rattle.count.specs.Count.{version_if, event_count};
 

@@ -1,4 +1,6 @@
 // How many events a body has, by calls on lent memory, for C and Rust programs to link. A library of its own, as count_each is.
+#![tactic(auto)]
+
 ghost use Rattle.std.specs.Prelude.{◌≡◌};
 ghost use Rattle.count.specs.Count.{version_if, event_count};
 

@@ -1,4 +1,6 @@
 // How many events a body has, by calls of many events, for C and Rust programs to link. A library of its own, as count_each is.
+#![tactic(auto)]
+
 ghost use Rattle.std.specs.Prelude.{◌≡◌};
 ghost use Rattle.count.specs.Count.{version_if, event_count};
 ghost use Rattle.many.specs.Many.{halt_of};

@@ -1,6 +1,8 @@
 // Asks for the empty reader of a version and counts the events of a body by the three libraries. Standard input holds inputs one behind the
 // other, each after its length in two bytes, the low one first: a version byte, then a body. Of each it prints `refused n`, or `wanted v t l`
 // (version, tick, largest client), `good a b` (1 if the reader is good; the same of that reader at tick -1) and `events n n n`.
+#![tactic(auto)]
+
 use kinds::Version;
 use libc::STDOUT_FILENO;
 use queries::WantedAnswer;

@@ -1,1 +1,3 @@
 // Demand 3, stated in specs/Demand.antt and proved in proofs/. No code.
+#![tactic(auto)]
+

@@ -1,4 +1,6 @@
 // The line of an event, written into a lent buffer at a place.
+#![tactic(auto)]
+
 ghost use Rattle.std.specs.Prelude.{◌≡◌};
 ghost use Rattle.state.specs.Views.{event_is};
 ghost use Rattle.lines.specs.Lines.{line_of, line_answer, line_target};

@@ -1,4 +1,6 @@
 // Reading an extension (format/item.rs): its identifier, its data, and the record that they make.
+#![tactic(auto)]
+
 ghost use Rattle.std.specs.Prelude.{◌≡◌, ◌≤◌, pos, length};
 ghost use Rattle.packer.specs.Parts.{shown};
 ghost use Rattle.shapes.specs.steps.Shapes.{id_part, fields_with};
@@ -13,7 +15,7 @@ use packer::{DataRead, Part, PartRead};
 use shapes::{Fields, FieldsRead};
 
 // An extension and the place past it; or that the bytes run out; or that the length of its data has been read and is below 0.
-#[derive(Drop)]
+#[derive(Clone, Copy)]
 pub enum ExRead {
     Got { item: Item, next: usize },
     RunsOut,

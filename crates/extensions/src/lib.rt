@@ -1,4 +1,6 @@
 // The twenty extensions that the format names (format/item.rs): what stands in the data of each, and which have a client.
+#![tactic(auto)]
+
 ghost use Rattle.std.specs.Prelude.{◌≡◌, get_or};
 ghost use Rattle.extensions.specs.Extensions.{all, payload_at, has_client};
 ghost use Rattle.extensions.specs.steps.Layouts.{payload_is, row_with, RowOf};
@@ -7,7 +9,7 @@ ghost use Rattle.extensions.specs.declared.Extension.TheVariants.{TeamSaveSucces
 use shapes::Shape;
 
 // In the order of docs/FORMAT.md.
-#[derive(Drop)]
+#[derive(Clone, Copy)]
 pub enum Extension {
     Antibot,
     AuthInit,
@@ -39,14 +41,14 @@ pub enum Found {
 }
 
 // What stands in an extension's data: fields of a shape, or all of it is one part.
-#[derive(Drop)]
+#[derive(Clone, Copy)]
 pub enum Layout {
     Shaped(Shape),
     Whole,
 }
 
 // What stands in an extension's data, and whether its first number is the record's client.
-#[derive(Drop)]
+#[derive(Clone, Copy)]
 pub struct Row {
     layout: Layout,
     client: bool,

@@ -1,11 +1,13 @@
 // The bytes at hand in a lent buffer: read behind those that are there, used from their front.
+#![tactic(auto)]
+
 ghost use Rattle.std.specs.Prelude.{◌≡◌, ◌-◌, ◌≤◌, min, length};
 ghost use Rattle.std.proofs.Math.Seq.{slice};
 ghost use Rattle.feed.specs.Feed.{empty_hand, unread, kept, passed, grown};
 ghost use Rattle.feed.specs.steps.Clamped.{clamped};
 
 // The bytes of a buffer from a place to an end, and whether the input has ended, so that no more come behind them.
-#[derive(Drop)]
+#[derive(Clone, Copy)]
 pub struct Hand {
     pub at: usize,
     pub end: usize,

@@ -1,4 +1,6 @@
 // Field sequences that hold several values: the arguments of a command, the ten numbers of an input.
+#![tactic(auto)]
+
 ghost use Rattle.std.specs.Prelude.{◌≡◌, []};
 ghost use Rattle.fields.specs.Fields.{args, read_field, read_fields, args_from};
 ghost use Rattle.fields.specs.Views.{zeros, ten_fields};
@@ -17,7 +19,7 @@ pub struct Args {
 }
 
 // The place past the arguments.
-#[derive(Drop)]
+#[derive(Clone, Copy)]
 pub enum ArgsAnswer {
     Got(usize),
     RunsOut,
@@ -127,7 +129,7 @@ pub fn skip_args(s: &[u8], at: usize) -> ArgsAnswer
 }
 
 // The client of an input and the place past its numbers.
-#[derive(Drop)]
+#[derive(Clone, Copy)]
 pub enum InputAnswer {
     Got { cid: i32, next: usize },
     RunsOut,

@@ -1,4 +1,6 @@
 // A rewind under way on lent arrays: it goes so many events a call, and between calls its copy of the board can be looked at.
+#![tactic(auto)]
+
 ghost use Rattle.std.specs.Prelude.{◌+◌, ◌≤◌, ◌<◌, min, ◌≡◌, false, cond, ◌&&◌, List, eqb, ℤ, pos};
 ghost use Rattle.state.specs.State.{entries_with};
 ghost use Rattle.back.specs.Board.{board};
@@ -18,7 +20,7 @@ use rewinding::{Over, Sought};
 use teams::TeamReader;
 
 // The tick, how many rows of the own reel are newer than its TickStart, and whether an event didn't fit.
-#[derive(Drop)]
+#[derive(Clone, Copy)]
 pub struct Progress {
     pub tick: i32,
     pub newer: usize,
@@ -33,7 +35,7 @@ pub struct Rewind {
     pub progress: Progress,
 }
 
-#[derive(Drop)]
+#[derive(Clone, Copy)]
 pub enum StartAnswer {
     Started,
     Refused(Refusal),
@@ -54,7 +56,7 @@ pub struct LentStart {
     pub progress: Progress,
 }
 
-#[derive(Drop)]
+#[derive(Clone, Copy)]
 pub enum GoAnswer {
     Ended,
     Going,
@@ -68,7 +70,7 @@ pub struct Go {
 }
 
 // The same where the arrays of the copy and of the own reel are lent: the copy's tick and the reel's counts.
-#[derive(Drop)]
+#[derive(Clone, Copy)]
 pub struct LentGo {
     pub answer: GoAnswer,
     pub tick: BoardTick,

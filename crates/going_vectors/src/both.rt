@@ -151,7 +151,7 @@ fn fewer(left: usize, goes: bool) -> usize
 }
 
 // The same on lent arrays.
-#[derive(Drop)]
+#[derive(Clone, Copy)]
 struct LentWalked {
     went: LentGo,
     calls: usize,

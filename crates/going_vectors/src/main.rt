@@ -10,6 +10,8 @@
 //      refused, the rewind that they leave stays
 // Before its first start each of the three is the blank one that a refusal hands out. Every start and every call is made by value and on lent
 // arrays; where they differ, or splits from one call, a line says so.
+#![tactic(auto)]
+
 mod both;
 mod same;
 
@@ -71,7 +73,7 @@ fn print_board(answer: GoAnswer, board: TeamBoard) {
 
 // ---- cases
 
-#[derive(Drop)]
+#[derive(Clone, Copy)]
 struct Step {
     what: u8,
     place: usize,

@@ -1,4 +1,6 @@
 // The test of entries (refusal 17): one for every call that is given a reader or a board.
+#![tactic(auto)]
+
 ghost use Rattle.std.specs.Prelude.{◌≡◌, ◌&&◌, ◌+◌, ◌*◌, ◌<◌, ◌≤◌, pos};
 ghost use Rattle.state.specs.State.{
   same_int,

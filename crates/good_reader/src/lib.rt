@@ -1,4 +1,6 @@
 // The test of a reader (refusal 17): its scalars, and its entries by crate good.
+#![tactic(auto)]
+
 ghost use Rattle.std.specs.Prelude.{◌≡◌};
 ghost use Rattle.std.specs.Int.Signed.{le_z};
 ghost use Rattle.state.specs.State.{entries_with, good_pending, good_scalars, reader_with, good_reader};

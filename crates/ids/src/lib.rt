@@ -1,4 +1,6 @@
 // The identifiers of the extensions and the magic, and finding them in a window.
+#![tactic(auto)]
+
 ghost use Rattle.std.specs.Prelude.{◌≡◌, ◌+◌, ◌-◌, ◌/◌, ◌%◌, ◌^◌, ◌≤◌, ◌<◌, length, take, drop, get_or};
 ghost use Rattle.packer.specs.Parts.{shown};
 ghost use Rattle.shapes.specs.steps.Shapes.{id_part};
@@ -12,7 +14,7 @@ use kinds::MagicRead;
 use refusal::Refusal;
 
 // 16 bytes as two numbers, which are compared at once; an array would be copied wherever it is used.
-#[derive(Drop)]
+#[derive(Clone, Copy)]
 pub struct Halves {
     first: u64,
     second: u64,

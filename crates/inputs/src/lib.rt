@@ -1,4 +1,6 @@
 // The input records on entries that are lent, with the ten numbers and the former ten. No input record touches the player entries.
+#![tactic(auto)]
+
 ghost use Rattle.std.specs.Prelude.{◌≡◌, ◌<◌, cond, ltb};
 ghost use Rattle.fields.specs.Views.{zeros};
 ghost use Rattle.state.specs.State.{Memory, ten_of, put_ten};

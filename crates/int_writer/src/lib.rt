@@ -1,4 +1,6 @@
 // Writing integers of variable length (packer/src/lib.rs, write_int).
+#![tactic(auto)]
+
 ghost use Rattle.std.specs.Prelude.{◌≡◌, ◌<◌, length};
 ghost use Rattle.std.specs.Int.Signed.{mag};
 ghost use Rattle.varint.specs.Written.{sign_bit, extend, first_byte, later_byte, later_bytes, canonical, written};

@@ -1,4 +1,6 @@
 // Records (format/item.rs) by the Rust's names.
+#![tactic(auto)]
+
 ghost use Rattle.std.specs.Prelude.{◌≡◌};
 ghost use Rattle.item.specs.Contents.{item_of, cid_of};
 ghost use Rattle.item.specs.Numbers.{tag_number};
@@ -11,7 +13,7 @@ use packer::Part;
 use shapes::Fields;
 
 // Which record: a kind other than the extension's, one of the 20 extensions, another extension.
-#[derive(Drop)]
+#[derive(Clone, Copy)]
 pub enum Tag {
     Plain(Kind),
     Named(Extension),
@@ -20,7 +22,7 @@ pub enum Tag {
 
 // A record. Strings, messages and payloads are parts of the caller's window; of 16 bytes of an identifier it is the place.
 // The ten numbers of an input and the arguments of a command stand beside it.
-#[derive(Drop)]
+#[derive(Clone, Copy)]
 pub enum Item {
     PlayerDiff {
         cid: i32,
@@ -154,7 +156,7 @@ pub struct Record {
 }
 
 // A record taken apart.
-#[derive(Drop)]
+#[derive(Clone, Copy)]
 pub struct Taken {
     pub tag: Tag,
     pub fields: Fields,

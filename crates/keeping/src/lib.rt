@@ -1,4 +1,6 @@
 // Events kept in a reel, whose arrays are lent.
+#![tactic(auto)]
+
 ghost use Rattle.std.specs.Prelude.{◌≡◌, cond, [], ◌∷◌, ◌<◌, ltb, pos};
 ghost use Rattle.fields.specs.Views.{zeros};
 ghost use Rattle.state.specs.State.{ten_of, put_ten};
@@ -14,7 +16,7 @@ use state::Event;
 use teams::{Joining, Team};
 
 // What is answered, and the counts of the reel that is left.
-#[derive(Drop)]
+#[derive(Clone, Copy)]
 pub struct KeptCounts {
     pub answer: KeepAnswer,
     pub counts: Counts,

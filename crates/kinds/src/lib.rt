@@ -1,4 +1,6 @@
 // Versions and kinds (format/mod.rs, format/item.rs): what the first integer of a record says.
+#![tactic(auto)]
+
 ghost use Rattle.std.specs.Prelude.{◌≡◌};
 ghost use Rattle.varint.specs.Integers.{read_int};
 ghost use Rattle.kinds.specs.Kinds.{kind_of, read_kind, kind_number, kind_cid};
@@ -9,20 +11,20 @@ ghost use Rattle.kinds.specs.Views.{version_is};
 use refusal::Refusal;
 use varint::IntRead;
 
-#[derive(Drop)]
+#[derive(Clone, Copy)]
 pub enum Version {
     V1,
     V2,
 }
 
-#[derive(Drop)]
+#[derive(Clone, Copy)]
 pub enum VersionOf {
     Is(Version),
     Refused(Refusal),
 }
 
 // What a record is, by its first integer; the client belongs to the kind of a player record.
-#[derive(Drop)]
+#[derive(Clone, Copy)]
 pub enum Kind {
     PlayerDiff(i32),
     Finish,
@@ -101,21 +103,21 @@ impl Kind {
     }
 }
 
-#[derive(Drop)]
+#[derive(Clone, Copy)]
 pub enum KindRead {
     Got { kind: Kind, next: usize },
     RunsOut,
     Refused(Refusal),
 }
 
-#[derive(Drop)]
+#[derive(Clone, Copy)]
 pub enum MagicRead {
     Used(usize),
     Refused(Refusal),
 }
 
 // A client, or none.
-#[derive(Drop)]
+#[derive(Clone, Copy)]
 pub enum Cid {
     Of(i32),
     NoCid,

@@ -1,5 +1,7 @@
 // The ladder program: standard input is a version byte, 01 or 02, and a body; its results list is printed, a row for each client that
 // finished, the number of the finishes of other clients, and a last line. What is at hand is listed before more is read.
+#![tactic(auto)]
+
 ghost use Rattle.std.specs.Prelude.{◌≡◌, ◌<◌, length};
 
 use feed::Hand;
@@ -24,7 +26,7 @@ struct Left {
 }
 
 // What is at hand after a read, and whether the read failed.
-#[derive(Drop)]
+#[derive(Clone, Copy)]
 struct Fed {
     hand: Hand,
     failed: bool,

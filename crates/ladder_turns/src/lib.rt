@@ -1,4 +1,6 @@
 // The ladder program's work: reading calls on the bytes at hand, and the finishes among their events.
+#![tactic(auto)]
+
 ghost use Rattle.std.specs.Prelude.{◌≡◌, min};
 ghost use Rattle.calls.specs.Along.{wants_more};
 ghost use Rattle.listing.specs.Listing.{halt_of};
@@ -12,7 +14,7 @@ use state::Reader;
 const FULL: usize = 65536;
 
 // What follows a turn: another one, a read, or the end.
-#[derive(Drop)]
+#[derive(Clone, Copy)]
 pub enum After {
     GoesOn,
     Wants,

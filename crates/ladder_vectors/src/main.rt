@@ -1,5 +1,7 @@
 // Lists bodies by turns and prints their lists. Standard input holds inputs one behind the other, each after its length in three bytes, the
 // low one first: a version byte, then a body.
+#![tactic(auto)]
+
 use feed::Hand;
 use kinds::{Version, VersionOf};
 use ladder_turns::After;

@@ -1,5 +1,7 @@
 // The reading call with the scalars lent too, as the entries are: a thin call above the by-value step. A state that is refused 17 is
 // tested for first, as in every reading call.
+#![tactic(auto)]
+
 ghost use Rattle.std.specs.Prelude.{◌≡◌};
 ghost use Rattle.state.specs.Reading.{step_of, call_on};
 ghost use Rattle.state.specs.Slim.{said_is};

@@ -1,5 +1,7 @@
 // The reading call on lent entries, with the scalars by value: they are lent from a local, so that covered code reaches the call that
 // takes them lent.
+#![tactic(auto)]
+
 ghost use Rattle.std.specs.Prelude.{◌≡◌};
 ghost use Rattle.state.specs.Reading.{call_on};
 ghost use Rattle.state.specs.Slim.{slim_step};

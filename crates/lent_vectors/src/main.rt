@@ -3,6 +3,8 @@
 //   1 or 2, or another byte that is no version; then a body, read by the lent call and printed as lines of the replay program
 //   0: the length of a name, the name, a reader as alike::reader_in takes it: by the lent call, by a call of many events and by one that
 //      has no room for an event, with what became of the memory lent
+#![tactic(auto)]
+
 use kinds::{Version, VersionOf};
 use libc::STDOUT_FILENO;
 use lines::Ending;

@@ -1,4 +1,6 @@
 // The lines of the replay program, written into a lent buffer at a place.
+#![tactic(auto)]
+
 ghost use Rattle.std.specs.Prelude.{◌≡◌, ◌+◌, ◌*◌, ◌/◌, ◌%◌, ◌≤◌, ◌<◌, [], ◌∷◌, ◌++◌, leb, length};
 ghost use Rattle.lines.specs.Lines.{
   natural,
@@ -23,7 +25,7 @@ use refusal::Refusal;
 use varint::Wrote;
 
 // How a replay ends.
-#[derive(Drop)]
+#[derive(Clone, Copy)]
 pub enum Ending {
     Finish,
     Refused(Refusal),

@@ -1,4 +1,6 @@
 // The results list of a body, for C and Rust programs to link.
+#![tactic(auto)]
+
 ghost use Rattle.std.specs.Prelude.{◌≡◌};
 ghost use Rattle.count.specs.Count.{version_if};
 ghost use Rattle.list_linked.specs.Linked.{end_number, Links};

@@ -2,6 +2,8 @@
 // each after its length in two bytes, the low one first: what it is, the length of its name, the name, bytes.
 //   0: how far the list's count of others is below 2^64 - 1; a reader as alike::reader_in takes it; the flag; a window
 //   1: a version and a body, read in one window, then in two for each cut: a line for each cut where that differs
+#![tactic(auto)]
+
 use kinds::Version;
 use libc::STDOUT_FILENO;
 use lines::Ending;

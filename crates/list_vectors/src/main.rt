@@ -1,6 +1,8 @@
 // Lists bodies that are whole in memory, by the linked call, and prints their lists as the ladder program does. Beside each, silent unless it is wrong:
 // what stands behind the rows in the arrays lent; the list that is made event by event.
 // Standard input holds inputs one behind the other, each after its length in three bytes, the low one first: a version byte, then a body.
+#![tactic(auto)]
+
 use kinds::{Version, VersionOf};
 use libc::STDOUT_FILENO;
 use lines::Ending;

@@ -1,4 +1,6 @@
 // The results list of a whole body.
+#![tactic(auto)]
+
 ghost use Rattle.listed.specs.Listed.{ListsBody};
 
 use kinds::Version;
@@ -7,7 +9,7 @@ use results::Results;
 use state::Reader;
 
 // How many rows there are, the number of the finishes of other clients, and how the body ends: finish or a refusal, never more.
-#[derive(Drop)]
+#[derive(Clone, Copy)]
 pub struct Listed {
     pub rows: usize,
     pub others: u64,

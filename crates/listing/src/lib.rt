@@ -1,4 +1,6 @@
 // A results list built beside a reader, window by window: a body of any length is listed in constant memory.
+#![tactic(auto)]
+
 ghost use Rattle.std.specs.Prelude.{◌≡◌, true};
 ghost use Rattle.state.specs.State.{entries_with, reader_with, good_reader};
 ghost use Rattle.state.specs.Views.{event_is};
@@ -12,7 +14,7 @@ use results::{Counted, Results};
 use state::{Answer, Entries, Event, Reader, Scalars};
 
 // Why the calls stopped.
-#[derive(Drop)]
+#[derive(Clone, Copy)]
 pub enum End {
     More,
     Finish,
@@ -30,7 +32,7 @@ pub struct ListRead {
 }
 
 // The same where entries and list are lent, and whether the list's count could rise that far.
-#[derive(Drop)]
+#[derive(Clone, Copy)]
 struct CallsRead {
     fits: bool,
     end: End,
@@ -41,7 +43,7 @@ struct CallsRead {
 }
 
 // Whether a list's count could rise at an event, and the count behind it.
-#[derive(Drop)]
+#[derive(Clone, Copy)]
 struct Kept {
     fits: bool,
     others: u64,

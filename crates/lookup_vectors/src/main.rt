@@ -1,6 +1,8 @@
 // Reads bodies with the reader by value and prints what lookups answer: the last line, then the board by the lookups of the reader. Standard
 // input holds inputs one behind the other, each after its length in three bytes, the low one first: 00, or 01 for the board after each event
 // too, by the lookups of a board; a version byte; a body. The teams of a board come behind all else of its clients.
+#![tactic(auto)]
+
 use back::BoardTick;
 use kinds::{Version, VersionOf};
 use libc::STDOUT_FILENO;

@@ -1,4 +1,6 @@
 // Lookups in the entries of a reader or a board.
+#![tactic(auto)]
+
 ghost use Rattle.std.specs.Prelude.{◌≡◌, false};
 ghost use Rattle.fields.specs.Views.{zeros};
 ghost use Rattle.lookups.specs.Lookups.{pos_of, input_for};
@@ -7,7 +9,7 @@ ghost use Rattle.lookups.specs.steps.Answers.{input_answer};
 use state::Entries;
 
 // A position, or none.
-#[derive(Drop)]
+#[derive(Clone, Copy)]
 pub enum Pos {
     At { x: i32, y: i32 },
     NoPos,

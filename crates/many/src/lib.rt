@@ -1,4 +1,6 @@
 // Many reading calls in one: the events as rows of numbers in lent memory.
+#![tactic(auto)]
+
 ghost use Rattle.std.specs.Prelude.{◌≡◌, true};
 ghost use Rattle.state.specs.State.{entries_with, reader_with, good_reader};
 ghost use Rattle.state.specs.Laws.{Sound};
@@ -12,7 +14,7 @@ use state::{Answer, Entries, Reader, Scalars};
 use teams::TeamReader;
 
 // Why the calls stopped: no room for another event, or the answer to the last call, which gave no event.
-#[derive(Drop)]
+#[derive(Clone, Copy)]
 pub enum Stop {
     Full,
     More,
@@ -30,7 +32,7 @@ pub struct ManyAnswer {
 }
 
 // The same where entries and teams are lent.
-#[derive(Drop)]
+#[derive(Clone, Copy)]
 struct RowsRead {
     stop: Stop,
     count: usize,

@@ -1,8 +1,10 @@
 // Numbers as arguments of a program.
+#![tactic(auto)]
+
 ghost use Rattle.std.specs.Prelude.{◌≡◌, ◌≤◌, ◌&&◌, leb};
 ghost use Rattle.number_args.specs.Numbers.{is_digit, with_digit, number_in};
 
-#[derive(Drop)]
+#[derive(Clone, Copy)]
 pub enum Argument {
     Number(i32),
     Bad,

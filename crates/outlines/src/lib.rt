@@ -1,4 +1,6 @@
 // Which pieces stand in the outline of a record.
+#![tactic(auto)]
+
 ghost use Rattle.std.specs.Prelude.{◌≡◌};
 ghost use Rattle.item.specs.steps.Taken.{from_fields};
 ghost use Rattle.item.specs.declared.Tag.TheVariants.{Other};
@@ -22,7 +24,7 @@ use pieces::{Outline, Piece, Plan, Tail};
 use shapes::{Fields, Shape};
 
 // What stands behind a kind's number: its client, its fields, and what follows them.
-#[derive(Drop)]
+#[derive(Clone, Copy)]
 pub struct Form {
     pub client: Piece,
     pub shape: Shape,

@@ -1,25 +1,27 @@
 // Reading strings, data and raw bytes (packer/src/lib.rs, Unpacker). What is read is a place and a length in the caller's window.
+#![tactic(auto)]
+
 ghost use Rattle.std.specs.Prelude.{◌≡◌};
 ghost use Rattle.packer.specs.Parts.{shown, read_raw, read_string, read_data};
 
 use varint::IntRead;
 
 // A part of the caller's window.
-#[derive(Drop)]
+#[derive(Clone, Copy)]
 pub struct Part {
     pub at: usize,
     pub len: usize,
 }
 
 // A part that was read and the place past what was used for it; or that the bytes run out.
-#[derive(Drop)]
+#[derive(Clone, Copy)]
 pub enum PartRead {
     Got { part: Part, next: usize },
     RunsOut,
 }
 
 // Data that was read, as a part; or that the bytes run out; or that its length has been read and is below 0.
-#[derive(Drop)]
+#[derive(Clone, Copy)]
 pub enum DataRead {
     Got { part: Part, next: usize },
     RunsOut,

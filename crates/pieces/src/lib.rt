@@ -1,4 +1,6 @@
 // The pieces of a record's written form.
+#![tactic(auto)]
+
 ghost use Rattle.std.specs.Prelude.{◌≡◌, get_or};
 ghost use Rattle.pieces.specs.steps.Pieces.{
   plan_with,
@@ -17,7 +19,7 @@ use shapes::{Fields, Shape};
 
 // A piece of a written form: none, one that can't be written, a number, bytes as they are, a string, data, the identifier of an
 // extension.
-#[derive(Drop)]
+#[derive(Clone, Copy)]
 pub enum Piece {
     Empty,
     Never,
@@ -29,7 +31,7 @@ pub enum Piece {
 }
 
 // What follows the fields: nothing, the ten numbers of an input, the arguments of a command.
-#[derive(Drop)]
+#[derive(Clone, Copy)]
 pub enum Tail {
     Nothing,
     Numbers,
@@ -37,7 +39,7 @@ pub enum Tail {
 }
 
 // The fields.
-#[derive(Drop)]
+#[derive(Clone, Copy)]
 pub struct Plan {
     pub one: Piece,
     pub two: Piece,
@@ -47,7 +49,7 @@ pub struct Plan {
 
 // In this order: the kind's number; its client, or an extension's identifier; the size of an extension's data; the fields; how many
 // arguments there are; and what follows.
-#[derive(Drop)]
+#[derive(Clone, Copy)]
 pub struct Outline {
     pub number: Piece,
     pub client: Piece,

@@ -1,4 +1,6 @@
 // The player records on entries that are lent. The other arrays stand in each promise as any lists: no player record touches them.
+#![tactic(auto)]
+
 ghost use Rattle.state.specs.State.{Memory};
 ghost use Rattle.state.specs.Reading.{player_diff, new_player, old_player};
 ghost use Rattle.state.specs.steps.Inside.{OnPlayers};

@@ -1,4 +1,6 @@
 // What is asked of a reader by value, beside reading (raw.rs, Reader): an empty one, whether it is good, lookups, the clients seen.
+#![tactic(auto)]
+
 ghost use Rattle.std.specs.Prelude.{◌≡◌, pos, ◌+ℤ◌};
 ghost use Rattle.state.specs.State.{good_reader};
 ghost use Rattle.lookups.specs.Lookups.{pos_of, input_for};
@@ -10,7 +12,7 @@ use refusal::Refusal;
 use state::Reader;
 
 // Whether there is an empty reader in a version, or a refusal.
-#[derive(Drop)]
+#[derive(Clone, Copy)]
 pub enum WantedAnswer {
     Is,
     Refused(Refusal),

@@ -3,6 +3,8 @@
 //   0: the list is ranked
 //   1: an event and the tick that is open at it: the event is kept in the list, which is ranked
 // Rows are printed by client, and `falls` where a time does, so that the order of equal times isn't seen.
+#![tactic(auto)]
+
 use item::Item;
 use libc::STDOUT_FILENO;
 use results::{Counted, Results};

@@ -1,6 +1,8 @@
 // The reach program: reach FROM TO. Each names a file that holds a version byte, 01 or 02, and a body, which may stop anywhere between records.
 // The bytes of records that bring the reader after FROM to the board after TO go to standard output. Where there are none a line on standard
 // error says why.
+#![tactic(auto)]
+
 ghost use Rattle.std.specs.Prelude.{◌≡◌, ◌<◌, length};
 
 use feed::Hand;
@@ -15,7 +17,7 @@ use teams::TeamReader;
 use varint::Wrote;
 
 // One of the two files.
-#[derive(Drop)]
+#[derive(Clone, Copy)]
 enum File {
     From,
     To,
@@ -30,7 +32,7 @@ struct First {
 }
 
 // What is at hand after a read, and whether the read failed.
-#[derive(Drop)]
+#[derive(Clone, Copy)]
 struct Fed {
     hand: Hand,
     failed: bool,

@@ -1,4 +1,6 @@
 // The reach program's reading: calls on the bytes at hand, of a body that may stop anywhere between records.
+#![tactic(auto)]
+
 ghost use Rattle.std.specs.Prelude.{◌≡◌, min, length};
 ghost use Rattle.reach_turns.specs.Turns.{turn_on, TurnIs};
 

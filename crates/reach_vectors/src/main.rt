@@ -10,6 +10,8 @@
 // A line for each: the bytes that are written in hex, `-` for none, and how many events they give; or the refusal. The call is made by value and on
 // lent arrays, with much room, with just enough and with a byte less. The bytes are read by the same reader, whole and byte by byte, unless it was
 // made by hand. Where something doesn't hold a line says so.
+#![tactic(auto)]
+
 ghost use Rattle.std.specs.Prelude.{◌≡◌, ◌≤◌, length};
 
 use back::{Board, BoardTick, TeamBoard};

@@ -1,4 +1,6 @@
 // Whether records bring a reader to a wanted board: the refusals that come before the target is looked at.
+#![tactic(auto)]
+
 ghost use Rattle.std.specs.Prelude.{◌≡◌, true, cond, List, ℕ, ◌<◌, ltb, ℤ, pos};
 ghost use Rattle.state.specs.State.{entries_with, reader_with};
 ghost use Rattle.state.specs.Reading.{at_or_below};
@@ -17,7 +19,7 @@ use refusal::Refusal;
 use state::{Pending, Scalars};
 
 // The tick to be reached, or the refusal.
-#[derive(Drop)]
+#[derive(Clone, Copy)]
 pub enum Allowed {
     To(i32),
     No(Refusal),

@@ -1,4 +1,6 @@
 // From a reader and a wanted board to the bytes of records that bring the reader there.
+#![tactic(auto)]
+
 ghost use Rattle.std.specs.Prelude.{◌≡◌, true, List, ℕ, ◌+◌, ◌*◌, ◌<◌, ◌≤◌, length, ℤ, pos};
 ghost use Rattle.kinds.specs.declared.Version.{Version};
 ghost use Rattle.record_writer.specs.steps.Puts.{PutsBytes};

@@ -1,4 +1,6 @@
 // The reading call of a reader by value (raw.rs, Reader). The work is done by step::open_call on lent entries.
+#![tactic(auto)]
+
 ghost use Rattle.std.specs.Prelude.{◌≡◌};
 ghost use Rattle.item.specs.Said.{refusing};
 ghost use Rattle.state.specs.State.{entries_with};

@@ -2,6 +2,8 @@
 // the other, each after its length in two bytes, the low one first: 00, or 01 for a body that arrives byte by byte; a version byte; a body.
 // Whole, a body's window reaches to its end and is the last. Byte by byte, the windows grow by one byte, the flag off until no byte is left:
 // `more` stands, with the reader's place and the bytes at hand, wherever these run out; such a call is to change nothing.
+#![tactic(auto)]
+
 use kinds::{Version, VersionOf};
 use libc::STDOUT_FILENO;
 use state::{Answer, Reader};
@@ -20,7 +22,7 @@ fn number(n: usize) -> i32 {
 }
 
 // Where a body stands: the place in it, the end of the bytes at hand, and whether the flag is on; or that it is read.
-#[derive(Drop)]
+#[derive(Clone, Copy)]
 struct Place {
     at: usize,
     end: usize,

@@ -1,4 +1,6 @@
 // The record call: a record at the start of a window, by its version.
+#![tactic(auto)]
+
 ghost use Rattle.std.specs.Prelude.{◌≡◌};
 ghost use Rattle.record_call.specs.Calls.{Called};
 ghost use Rattle.record_call.specs.steps.Said.{said_of};
@@ -9,7 +11,7 @@ use records::RecordAnswer;
 use refusal::Refusal;
 
 // What the record call answers: the bytes used, more, or a refusal.
-#[derive(Drop)]
+#[derive(Clone, Copy)]
 pub enum CallAnswer {
     Got(usize),
     More,

@@ -2,6 +2,8 @@
 // used, the record's name and its fields; `runs out`; or `refused` with the number and the kind. A case is a length in a byte, a version
 // and bytes. Each is called with the flag off and on: where the bytes run out the second call is to be refused 3, elsewhere to say the
 // same.
+#![tactic(auto)]
+
 ghost use Rattle.std.specs.Prelude.{◌<◌};
 
 use extensions::Extension;

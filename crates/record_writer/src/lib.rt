@@ -1,4 +1,6 @@
 // The writer of records (added to the Rust's): a record and the bytes lent with it, into a target at a place.
+#![tactic(auto)]
+
 ghost use Rattle.std.specs.Prelude.{◌≡◌, length};
 ghost use Rattle.varint.specs.Written.{written, written_if};
 ghost use Rattle.varint.specs.steps.Writing.{wrote, wrote_if};

@@ -1,4 +1,6 @@
 // Reading records (format/item.rs): the rest of a record of a kind, and a whole record.
+#![tactic(auto)]
+
 ghost use Rattle.std.specs.Prelude.{◌≡◌, true};
 ghost use Rattle.fields.specs.Fields.{read_fields};
 ghost use Rattle.fields.specs.Views.{zeros};
@@ -20,7 +22,7 @@ use shapes::{Fields, FieldsRead, PairRead, Shape};
 use varint::IntRead;
 
 // A record without what stands beside it, and the place past it.
-#[derive(Drop)]
+#[derive(Clone, Copy)]
 pub enum ItemRead {
     Got { item: Item, next: usize },
     RunsOut,
@@ -61,7 +63,7 @@ fn read_ex(s: &[u8], at: usize) -> ItemRead
 
 // How a record goes on after its kind: fields of a shape; dt; an input (whether a new one) or a command, which have something beside
 // them; an extension.
-#[derive(Drop)]
+#[derive(Clone, Copy)]
 pub enum Rest {
     Shaped(Shape),
     Dt,
@@ -143,7 +145,7 @@ fn read_shaped(kind: Kind, shape: Shape, s: &[u8], at: usize) -> ItemRead
 }
 
 // The place past a whole record.
-#[derive(Drop)]
+#[derive(Clone, Copy)]
 pub enum RecordAnswer {
     Got(usize),
     RunsOut,
@@ -227,7 +229,7 @@ fn command(answer: ArgsAnswer, item: Item, args: Args) -> RecordRead
 }
 
 // What a command holds before its arguments, and their place.
-#[derive(Drop)]
+#[derive(Clone, Copy)]
 pub enum HeadRead {
     Got {
         cid: i32,

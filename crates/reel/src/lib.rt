@@ -1,4 +1,6 @@
 // The reel: the last 512 events of a reader with what stepping back needs, in a ring of flat arrays.
+#![tactic(auto)]
+
 ghost use Rattle.std.specs.Prelude.{◌≡◌};
 ghost use Rattle.reel.specs.Reel.{input_row, team_row, undo_in, place_before, place_after, good_counts, one_more, empty_reel};
 
@@ -7,7 +9,7 @@ use refusal::Refusal;
 use teams::Team;
 
 // The place of the next row, below 512, and how many rows are kept, at most 512.
-#[derive(Drop)]
+#[derive(Clone, Copy)]
 pub struct Counts {
     pub next: usize,
     pub count: usize,
@@ -22,7 +24,7 @@ pub struct Reel {
     pub formers: [i32; 5120],
 }
 
-#[derive(Drop)]
+#[derive(Clone, Copy)]
 pub enum KeepAnswer {
     Kept,
     Refused(Refusal),

@@ -13,6 +13,8 @@
 //   10, 12, 14, 15: as 0, 2, 4, 5, with the reader's teams, as team_alike::teams_in takes them, behind its other bytes
 // A reel is the next place and the number of rows kept, two bytes each, the low one first; the first number of every row; how many rows are
 // written over; each of these: its place in two bytes, its first six numbers, the place of one of its ten numbers, that number, the former one.
+#![tactic(auto)]
+
 mod under_way;
 
 use back::{TeamBoard, Undo};

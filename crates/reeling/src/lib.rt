@@ -1,4 +1,6 @@
 // Many reading calls in one, with a reel beside that keeps their events.
+#![tactic(auto)]
+
 ghost use Rattle.std.specs.Prelude.{◌≡◌, true};
 ghost use Rattle.state.specs.State.{entries_with, reader_with, good_reader};
 ghost use Rattle.state.specs.Laws.{Sound};
@@ -25,7 +27,7 @@ pub struct ReelRead {
 }
 
 // The same where entries and teams are lent.
-#[derive(Drop)]
+#[derive(Clone, Copy)]
 struct CallsKept {
     stop: Stop,
     count: usize,

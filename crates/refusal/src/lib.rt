@@ -1,8 +1,10 @@
 // The refusals of docs/FORMAT.md, by the Rust's names where it has them.
+#![tactic(auto)]
+
 ghost use Rattle.std.specs.Prelude.{◌≡◌};
 ghost use Rattle.refusal.specs.Numbers.{number_of};
 
-#[derive(Drop)]
+#[derive(Clone, Copy)]
 pub enum Refusal {
     WrongMagic,
     UnknownVersion,

@@ -3,6 +3,8 @@
 //   0: the magic call on these bytes
 //   1: a version: a number 100 less than the first byte (255: the least), and 256 times the second
 //   2: a part of four bytes: its place and its length, where 255 stands for 18446744073709551615
+#![tactic(auto)]
+
 use kinds::{MagicRead, Version, VersionOf};
 use libc::STDOUT_FILENO;
 use packer::Part;

@@ -1,5 +1,7 @@
 // The replay program: standard input is a version byte, 01 or 02, and a body; a line is printed for each event, and a last line. Lines come
 // as the bytes come: what is at hand is replayed before more is read.
+#![tactic(auto)]
+
 ghost use Rattle.std.specs.Prelude.{◌≡◌, ◌<◌, length};
 
 use feed::Hand;
@@ -22,7 +24,7 @@ struct Left {
 }
 
 // What is at hand after a read, and whether the read failed.
-#[derive(Drop)]
+#[derive(Clone, Copy)]
 struct Fed {
     hand: Hand,
     failed: bool,

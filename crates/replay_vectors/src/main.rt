@@ -1,5 +1,7 @@
 // Replays bodies by turns, with room for a few events only, and prints their lines. Standard input holds inputs one behind the other, each
 // after its length in three bytes, the low one first: a version byte, then a body.
+#![tactic(auto)]
+
 use feed::Hand;
 use kinds::{Version, VersionOf};
 use libc::STDOUT_FILENO;

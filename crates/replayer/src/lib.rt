@@ -1,4 +1,6 @@
 // The replay program's work: reading calls on the bytes at hand, and the lines of their events.
+#![tactic(auto)]
+
 ghost use Rattle.std.specs.Prelude.{◌≡◌, ◌+◌, ◌-◌, ◌/◌, ◌≤◌, min, length};
 ghost use Rattle.lines.specs.Lines.{longest};
 ghost use Rattle.lines.specs.steps.Puts.{PutsText};

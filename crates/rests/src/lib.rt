@@ -1,4 +1,6 @@
 // The rest of a record of a kind, read from a window, and what it changes in the scalars and the entries that are lent.
+#![tactic(auto)]
+
 ghost use Rattle.std.specs.Prelude.{◌≡◌, true};
 ghost use Rattle.item.specs.Records.{read_rest};
 ghost use Rattle.item.specs.Said.{finish};

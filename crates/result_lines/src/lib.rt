@@ -1,4 +1,6 @@
 // The lines of a results list, written into a lent buffer at a place.
+#![tactic(auto)]
+
 ghost use Rattle.std.specs.Prelude.{◌≡◌, ◌+◌, ◌*◌, ◌≤◌, leb, length};
 ghost use Rattle.lines.specs.Lines.{decimal_digits, newline};
 ghost use Rattle.lines.specs.steps.Puts.{PutsText};

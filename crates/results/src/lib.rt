@@ -1,4 +1,6 @@
 // A results list: of each client 0 to 127 its finish with the lowest time.
+#![tactic(auto)]
+
 ghost use Rattle.std.specs.Prelude.{◌≡◌, ◌+◌, ◌<◌, cond, leb};
 ghost use Rattle.refusal.specs.declared.Refusal.TheVariants.{BadState};
 ghost use Rattle.item.specs.Contents.{item_of};
@@ -35,14 +37,14 @@ impl Results {
 }
 
 // Whether an event is a finish.
-#[derive(Drop)]
+#[derive(Clone, Copy)]
 enum FinishOf {
     Finish { cid: i32, time: i32 },
     NoFinish,
 }
 
 // The count of other clients' finishes after an event; 17 if it can't rise.
-#[derive(Drop)]
+#[derive(Clone, Copy)]
 pub enum Counted {
     Others(u64),
     Refused(Refusal),

@@ -1,6 +1,8 @@
 // The rewind program: rewind TICK [STEP [EVENTS]]. Standard input is a version byte, 01 or 02, and a body. It is read to its end, or until
 // EVENTS events have come, with a reel beside; then the board is rewound to TICK and printed. With a STEP above 0 the rewind goes STEP events
 // a call, and the copy is printed after each.
+#![tactic(auto)]
+
 ghost use Rattle.std.specs.Prelude.{◌≡◌, ◌<◌, length};
 
 use back::{Board, TeamBoard};
@@ -20,7 +22,7 @@ use varint::Wrote;
 
 // What the arguments say: whether they are good, the tick, how many events the rewind goes a call (0: all at once), and how many are read at
 // most.
-#[derive(Drop)]
+#[derive(Clone, Copy)]
 struct Wanted {
     good: bool,
     tick: i32,
@@ -37,7 +39,7 @@ struct First {
 }
 
 // What is at hand after a read, and whether the read failed.
-#[derive(Drop)]
+#[derive(Clone, Copy)]
 struct Fed {
     hand: Hand,
     failed: bool,

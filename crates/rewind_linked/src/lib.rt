@@ -1,4 +1,6 @@
 // Bodies read with a reel beside, and rewound at once or in so many events a call, for C and Rust programs to link.
+#![tactic(auto)]
+
 ghost use Rattle.std.specs.Prelude.{◌≡◌, List, ℤ};
 ghost use Rattle.count.specs.Count.{version_if};
 ghost use Rattle.state.specs.State.{entries_with};

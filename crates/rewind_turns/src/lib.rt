@@ -1,4 +1,6 @@
 // The rewind program's reading: calls on the bytes at hand, with a reel beside.
+#![tactic(auto)]
+
 ghost use Rattle.std.specs.Prelude.{◌≡◌, min, ◌||◌};
 ghost use Rattle.many.specs.Many.{halt_of};
 ghost use Rattle.windows.specs.Windows.{ends};

@@ -2,6 +2,8 @@
 // three bytes, the low one first: the number of ticks in a byte, the ticks in four bytes each, the most events in four bytes (all ones: as many
 // as there are), a version byte, a body. Each tick is rewound to by the call on lent arrays, by the one by value and by those for C and Rust
 // programs, at once and under way; where they differ a line says so.
+#![tactic(auto)]
+
 use back::TeamBoard;
 use feed::Hand;
 use kinds::{Version, VersionOf};

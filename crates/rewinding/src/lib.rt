@@ -1,4 +1,6 @@
 // Rewinding to a tick: a copy of the board, just after the newest TickStart of that tick on the reel.
+#![tactic(auto)]
+
 ghost use Rattle.std.specs.Prelude.{◌≡◌, true, ◌&&◌, List, ◌<◌, ◌≤◌, ltb, ℤ};
 ghost use Rattle.state.specs.State.{ten_of, entries_with};
 ghost use Rattle.back.specs.Board.{board};
@@ -15,7 +17,7 @@ use state::{Entries, Standing};
 use taking::Off;
 use teams::TeamReader;
 
-#[derive(Drop)]
+#[derive(Clone, Copy)]
 pub enum RewindAnswer {
     Ended,
     Refused(Refusal),
@@ -36,14 +38,14 @@ enum Found {
 }
 
 // The same, or the refusal.
-#[derive(Drop)]
+#[derive(Clone, Copy)]
 pub enum Sought {
     Newer(usize),
     Refused(Refusal),
 }
 
 // What stepping over rows leaves, how many fitted, and the place before which the others stand.
-#[derive(Drop)]
+#[derive(Clone, Copy)]
 pub struct Over {
     pub off: Off,
     pub over: usize,

@@ -1,4 +1,6 @@
 // A rewind under way by value, and lookups on its copy. The work is done by crate going on lent arrays.
+#![tactic(auto)]
+
 ghost use Rattle.std.specs.Prelude.{◌≡◌};
 ghost use Rattle.state.specs.State.{entries_with};
 ghost use Rattle.teams.specs.Teams.{team_of};

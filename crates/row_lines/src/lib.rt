@@ -1,4 +1,6 @@
 // Lines of text from rows of numbers.
+#![tactic(auto)]
+
 ghost use Rattle.std.specs.Prelude.{◌≡◌, ◌+◌, ◌*◌, ◌-◌, ◌≤◌, length, take, drop, get_or, pos, negsuc};
 ghost use Rattle.kinds.specs.declared.Cid.TheVariants.{Of};
 ghost use Rattle.lines.specs.Lines.{input_word, record_line, longest};

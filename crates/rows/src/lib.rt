@@ -1,4 +1,6 @@
 // Rows of numbers that tell of events, in lent memory.
+#![tactic(auto)]
+
 ghost use Rattle.std.specs.Prelude.{◌≡◌, [], ◌∷◌, ◌++◌, ◌+◌, ◌*◌, ◌/◌, ◌≤◌, min, length, pos};
 ghost use Rattle.num.specs.Wrap.{wrap32};
 ghost use Rattle.item.specs.Contents.{item_of};

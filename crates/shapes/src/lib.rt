@@ -1,4 +1,6 @@
 // The field sequences that records share, and how they are read.
+#![tactic(auto)]
+
 ghost use Rattle.std.specs.Prelude.{◌≡◌, false};
 ghost use Rattle.fields.specs.Fields.{read_fields};
 ghost use Rattle.varint.specs.Integers.{read_int};
@@ -8,7 +10,7 @@ use packer::{DataRead, Part, PartRead};
 use varint::IntRead;
 
 // Named for the fields: numbers, 16 bytes of an identifier, then a string or data.
-#[derive(Drop)]
+#[derive(Clone, Copy)]
 pub enum Shape {
     Nothing,
     Int,
@@ -21,7 +23,7 @@ pub enum Shape {
 }
 
 // The fields of every shape; those that a shape lacks are zero and empty. Of an identifier it is the place.
-#[derive(Drop)]
+#[derive(Clone, Copy)]
 pub struct Fields {
     pub first: i32,
     pub second: i32,
@@ -30,7 +32,7 @@ pub struct Fields {
 }
 
 // The fields and the place past them; or that the bytes run out; or that the length of data has been read and is below 0.
-#[derive(Drop)]
+#[derive(Clone, Copy)]
 pub enum FieldsRead {
     Got { fields: Fields, next: usize },
     RunsOut,
@@ -38,7 +40,7 @@ pub enum FieldsRead {
 }
 
 // Two numbers and the place past them. It is smaller than FieldsRead: most records hold no more.
-#[derive(Drop)]
+#[derive(Clone, Copy)]
 pub enum PairRead {
     Got {
         first: i32,

@@ -1,4 +1,6 @@
 // The types of the reader, and the empty one (raw.rs, Reader).
+#![tactic(auto)]
+
 ghost use Rattle.std.specs.Prelude.{◌≡◌};
 ghost use Rattle.state.specs.State.{empty_reader};
 ghost use Rattle.state.specs.Reading.{is_closed};
@@ -8,7 +10,7 @@ use kinds::{Cid, Kind, Version};
 use refusal::Refusal;
 
 // The kind that was read and whose record was not, or none.
-#[derive(Drop)]
+#[derive(Clone, Copy)]
 pub enum Pending {
     Is(Kind),
     NoKind,
@@ -25,7 +27,7 @@ pub struct Entries {
 }
 
 // Whether a reader reads on: it is open, or finish or a refusal has closed it.
-#[derive(Drop)]
+#[derive(Clone, Copy)]
 pub enum Standing {
     Open,
     Finished,
@@ -44,7 +46,7 @@ impl Standing {
     }
 }
 
-#[derive(Drop)]
+#[derive(Clone, Copy)]
 pub struct Scalars {
     pub version: Version,
     pub tick: i32,
@@ -88,7 +90,7 @@ impl Reader {
 }
 
 // What a reading call finds. The ten numbers of an input and the former ten stand beside it, and the arguments of a command.
-#[derive(Drop)]
+#[derive(Clone, Copy)]
 pub enum Event {
     TickStart(i32),
     TickEnd(i32),
@@ -116,7 +118,7 @@ pub enum Event {
     Record(Item),
 }
 
-#[derive(Drop)]
+#[derive(Clone, Copy)]
 pub enum Answer {
     Event { event: Event, used: usize },
     More,
@@ -125,7 +127,7 @@ pub enum Answer {
 }
 
 // What a call on lent entries answers, and the scalars that it leaves.
-#[derive(Drop)]
+#[derive(Clone, Copy)]
 pub struct Outcome {
     pub answer: Answer,
     pub scalars: Scalars,
@@ -133,7 +135,7 @@ pub struct Outcome {
 
 // What the tick rules say of a kind: the record is read; a tick starts; a tick ends and the number is the next one; a tick ends at
 // Finish; the tick would pass the last.
-#[derive(Drop)]
+#[derive(Clone, Copy)]
 pub enum Rule {
     Reads,
     Starts,
@@ -143,7 +145,7 @@ pub enum Rule {
 }
 
 // A tick, or that it would pass the last.
-#[derive(Drop)]
+#[derive(Clone, Copy)]
 pub enum Next {
     Tick(i32),
     Past,

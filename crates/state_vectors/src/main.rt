@@ -8,6 +8,8 @@
 //   4: a reader with its three bytes of teams; a client, 100 more than it is; a body, read to its end: the client's team then
 // Of each PlayerTeam read in 1, 2 and 4 its client, its team and the former one are printed. A call by value is held to the one on lent entries
 // and teams and, where the teams are good, to the one without teams; where they differ a line says so.
+#![tactic(auto)]
+
 mod beside;
 
 use crate::beside::{hold_lent, hold_plain};

@@ -1,5 +1,7 @@
 // One reading call on an open reader whose entries are lent: the pending kind or a kind that is read, the tick rules, the record and what
 // it changes (crate rests). Every public form of reading goes through `open_call`.
+#![tactic(auto)]
+
 ghost use Rattle.std.specs.Prelude.{◌≡◌};
 ghost use Rattle.kinds.specs.steps.Kinds.{kind_is};
 ghost use Rattle.state.specs.Reading.{next_kind, with_rule, open_call, good_call};

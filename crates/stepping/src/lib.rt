@@ -1,4 +1,6 @@
 // Stepping back over an event, a board by value. The work is done by taking::take_off on lent entries.
+#![tactic(auto)]
+
 ghost use Rattle.std.specs.Prelude.{◌≡◌, cond};
 ghost use Rattle.refusal.specs.declared.Refusal.TheVariants.{NotLast};
 ghost use Rattle.state.specs.Views.{event_is};

@@ -1,4 +1,6 @@
 // Events taken off a board whose entries are lent: the core that every form of stepping back goes through.
+#![tactic(auto)]
+
 ghost use Rattle.std.specs.Prelude.{ℕ, ◌≡◌, cond, List, ℤ};
 ghost use Rattle.std.specs.Int.Signed.{non_neg};
 ghost use Rattle.fields.specs.Views.{zeros};
@@ -16,7 +18,7 @@ use back::{BoardTick, Undo};
 use teams::Team;
 
 // Whether the event fitted, and the tick of the board that is left.
-#[derive(Drop)]
+#[derive(Clone, Copy)]
 pub struct Off {
     pub fits: bool,
     pub tick: BoardTick,

@@ -1,4 +1,6 @@
 // States with teams for test programs: whether two readers or two boards are the same; readers made of the bytes of a case.
+#![tactic(auto)]
+
 ghost use Rattle.std.specs.Prelude.{◌≡◌, ◌&&◌};
 ghost use Rattle.state.specs.State.{every};
 ghost use Rattle.alike.specs.Alike.{same_number, same_entries, same_scalars, same_cid, board_tick};

@@ -1,1 +1,3 @@
 // Reading calls with teams: definitions and what holds of them. No code.
+#![tactic(auto)]
+

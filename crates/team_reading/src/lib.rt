@@ -1,4 +1,6 @@
 // The reading call with teams, of a reader by value and on lent memory: above the call without teams, what its event says of a team.
+#![tactic(auto)]
+
 ghost use Rattle.std.specs.Prelude.{◌≡◌};
 ghost use Rattle.state.specs.Slim.{said_is};
 ghost use Rattle.state.specs.steps.Inside.{memory};
@@ -20,7 +22,7 @@ pub struct TeamRead {
 }
 
 // The same of a call on lent memory.
-#[derive(Drop)]
+#[derive(Clone, Copy)]
 pub struct TeamOutcome {
     pub outcome: Outcome,
     pub former: Team,

@@ -2,6 +2,8 @@
 // Standard input holds cases one behind the other, each after its length in two bytes, the low one first: the length of a name, the name, a
 // reader as team_alike::team_reader_in takes it (17 bytes), a window, which is the last. Behind the rows stand the mark and the number of the
 // client that the reader's last three bytes name.
+#![tactic(auto)]
+
 use libc::STDOUT_FILENO;
 use lines::Ending;
 use many::{ManyAnswer, Stop};

@@ -1,4 +1,6 @@
 // Teams: of each client 0 to 127 its team number or none, set by PlayerTeam; and the reader that has them.
+#![tactic(auto)]
+
 ghost use Rattle.std.specs.Prelude.{◌≡◌};
 ghost use Rattle.item.specs.Contents.{item_of};
 ghost use Rattle.state.specs.Views.{event_is};
@@ -11,7 +13,7 @@ use kinds::Version;
 use state::{Event, Reader};
 
 // A team number, or none.
-#[derive(Drop)]
+#[derive(Clone, Copy)]
 pub enum Team {
     Number(i32),
     NoTeam,
@@ -37,7 +39,7 @@ impl TeamReader {
 }
 
 // What a PlayerTeam record says: the client and its team.
-#[derive(Drop)]
+#[derive(Clone, Copy)]
 pub enum Joining {
     Joins { cid: i32, team: i32 },
     Nobody,

@@ -1,4 +1,6 @@
 // Writing strings, data and raw bytes (packer/src/lib.rs, Packer).
+#![tactic(auto)]
+
 ghost use Rattle.std.specs.Prelude.{◌≡◌, ◌+◌, ◌≤◌, length};
 ghost use Rattle.varint.specs.Written.{written, written_if};
 ghost use Rattle.varint.specs.steps.Writing.{wrote, wrote_if};

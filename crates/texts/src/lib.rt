@@ -1,4 +1,6 @@
 // What test programs print of a reading: lines by value.
+#![tactic(auto)]
+
 ghost use Rattle.std.specs.Prelude.{◌≡◌};
 ghost use Rattle.lines.specs.Lines.{line_of, last_line};
 ghost use Rattle.state.specs.Views.{event_is};
@@ -17,7 +19,7 @@ pub struct Text {
 }
 
 // The bytes that an event used; any other answer ends a body.
-#[derive(Drop)]
+#[derive(Clone, Copy)]
 pub enum Used {
     Bytes(usize),
     NoEvent,

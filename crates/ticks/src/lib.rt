@@ -1,4 +1,6 @@
 // The scalars of a reader: what each act leaves of them, the next tick, the tick rules (raw.rs, Reader).
+#![tactic(auto)]
+
 ghost use Rattle.std.specs.Prelude.{◌≡◌, ◌<◌};
 ghost use Rattle.item.specs.Said.{gives};
 ghost use Rattle.state.specs.State.{Memory, larger};

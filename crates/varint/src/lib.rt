@@ -1,11 +1,13 @@
 // Reading integers of variable length (packer/src/lib.rs, read_int).
+#![tactic(auto)]
+
 ghost use Rattle.std.specs.Prelude.{◌≡◌, ◌<◌};
 ghost use Rattle.varint.specs.Integers.{weight, digits, amount, sign_of, value_of, is_last, remark_of, read_int};
 
 use refusal::Refusal;
 
 // What stands out in a number's bytes. It never refuses.
-#[derive(Drop)]
+#[derive(Clone, Copy)]
 pub enum Remark {
     None,
     Overlong,
@@ -13,7 +15,7 @@ pub enum Remark {
 }
 
 // What reading an integer finds: its value, the place past its bytes and a remark; or that the bytes run out.
-#[derive(Drop)]
+#[derive(Clone, Copy)]
 pub enum IntRead {
     Got {
         value: i32,
@@ -24,7 +26,7 @@ pub enum IntRead {
 }
 
 // What writing answers: the place past the bytes written, or a refusal.
-#[derive(Drop)]
+#[derive(Clone, Copy)]
 pub enum Wrote {
     Past(usize),
     Refused(Refusal),

@@ -2,6 +2,8 @@
 // Every board on the way, with its teams, is compared with the one that reading had there. The events are printed as they are taken off, and `empty` at
 // the end. Standard input holds inputs one behind the other, each after its length in two bytes, the low one first: a version byte, then a
 // body.
+#![tactic(auto)]
+
 use back::{BackAnswer, SteppedBack, TeamBoard};
 use kinds::{Version, VersionOf};
 use libc::STDOUT_FILENO;

@@ -1,5 +1,7 @@
 // A body read through a window of 65,536 bytes, turn by turn. What turns print of it, for any printer, is in specs/ and proofs/; here is what
 // the calls on a window come to.
+#![tactic(auto)]
+
 ghost use Rattle.std.specs.Prelude.{◌≡◌, false, cond};
 ghost use Rattle.many.specs.Many.{halt_of};
 ghost use Rattle.windows.specs.Windows.{ends, too_long, wants};

@@ -6,6 +6,8 @@
 //   0: a record made by hand: the length of its name, the name, and what bytes say: version, which record (`simple`, `with_part`, `with_place`), a
 //      number, the place of an identifier, the place and the length of a part, the same of every argument, how many arguments; then the
 //      bytes lent. From 252 on a byte stands for a large number
+#![tactic(auto)]
+
 use fields::Args;
 use item::{Item, Record};
 use kinds::Version;

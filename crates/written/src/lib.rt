@@ -1,1 +1,3 @@
 // The written form of records: definitions in specs/, and what holds of them, in proofs/. No code.
+#![tactic(auto)]
+
