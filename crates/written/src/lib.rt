@@ -1,3 +1,2 @@
 // The written form of records: definitions in specs/, and what holds of them, in proofs/. No code.
 #![tactic(auto)]
-
