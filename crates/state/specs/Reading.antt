@@ -16,11 +16,11 @@ use Rattle.refusal.specs.declared.Refusal.TheVariants.{
 }
 use Rattle.num.specs.Wrap.{wrap32}
 use Rattle.packer.specs.declared.Part.{Part}
-use Rattle.fields.specs.Fields.{Value, Reading, got, runs_out, refused}
+use Rattle.fields.specs.Fields.{Reading, got, runs_out, refused}
 use Rattle.fields.specs.Views.{zeros, numbers}
 use Rattle.item.specs.Said.{Said, gives, more, finish, refusing}
 use Rattle.kinds.specs.Kinds.{read_kind}
-use Rattle.item.specs.Records.{Content, content, read_rest}
+use Rattle.item.specs.Records.{Content, read_rest}
 use Rattle.item.specs.Contents.{cid_of}
 use Rattle.kinds.specs.declared.Version.{Version}
 use Rattle.kinds.specs.declared.Kind.{Kind}
@@ -47,7 +47,6 @@ use Rattle.state.specs.State.{
 }
 use Rattle.state.specs.declared.Pending.{Pending}
 use Rattle.state.specs.declared.Pending.TheVariants.{Is, NoKind}
-use Rattle.state.specs.declared.Entries.{Entries}
 use Rattle.state.specs.declared.Standing.{Standing}
 use Rattle.state.specs.declared.Standing.TheVariants.{Open, Finished, Refused}
 use Rattle.state.specs.declared.Scalars.{Scalars}

@@ -1,10 +1,9 @@
 -- Reader and board: what they hold, the empty ones, which are good (refusal 17 for the others). docs/FORMAT.md, "Ticks and the board".
-use Rattle.std.specs.Prelude.{ℕ, zero, suc, ◌+◌, ◌*◌, Bool, true, false, not, cond, ◌&&◌, List, [], ◌∷◌, map, get_or, set, replicate, ltb, eqb, ℤ, pos, negsuc}
+use Rattle.std.specs.Prelude.{ℕ, zero, suc, ◌+◌, ◌*◌, Bool, true, false, cond, ◌&&◌, List, [], ◌∷◌, map, get_or, set, replicate, ltb, eqb, ℤ, pos, negsuc}
 use Rattle.std.specs.Int.Signed.{le_z, lt_z, non_neg}
 use Rattle.fields.specs.Views.{zeros}
 pub use Rattle.kinds.specs.Kinds.{has_ex}
 use Rattle.kinds.specs.declared.Version.{Version}
-use Rattle.kinds.specs.declared.Version.TheVariants.{V1, V2}
 use Rattle.kinds.specs.declared.Cid.{Cid}
 use Rattle.kinds.specs.declared.Cid.TheVariants.{NoCid}
 use Rattle.state.specs.Sorts.{Sort, sort_of}
