@@ -18,7 +18,7 @@ use Rattle.packer.specs.declared.DataRead.TheVariants as blobs
 use Rattle.fields.specs.Fields.{Field, int, dt, mask, str, uuid, blob, args, Value, Reading, got, runs_out, refused, args_from, read_field, read_fields}
 use Rattle.fields.specs.steps.Sorts.{int_field, dt_from, dt_field, mask_field, part_field, data_field, one_arg, as_strings, args_of, args_field, push, and_then}
 use Rattle.kinds.specs.Kinds.{kind_of, read_kind}
-use Rattle.kinds.specs.steps.Kinds.{with_client, extension_kind, after_number}
+use Rattle.kinds.specs.steps.Kinds.{with_client, after_number}
 use Rattle.extensions.specs.Extensions.{Payload, shaped, all_data, find, payload_at}
 use Rattle.extensions.specs.declared.Extension.{Extension}
 use Rattle.extensions.specs.declared.Found.{Found}
@@ -26,9 +26,7 @@ use Rattle.extensions.specs.declared.Found.TheVariants.{Known, Unknown}
 use Rattle.item.specs.Records.{Rest, fields, extension, Content, as_content, of_payload, of_found, read_ex, read_as, rest_of, read_rest}
 use Rattle.item.specs.steps.Reading.{up_to, after_data, after_id}
 use Rattle.kinds.specs.declared.Version.{Version}
-use Rattle.kinds.specs.declared.Version.TheVariants.{V1, V2}
 use Rattle.kinds.specs.declared.Kind.{Kind}
-use Rattle.kinds.specs.declared.Kind.TheVariants.{PlayerNew, PlayerOld}
 use Rattle.item.specs.declared.Tag.{Tag}
 use Rattle.item.specs.declared.Tag.TheVariants.{Named}
 use Rattle.written.proofs.KindLaws.{Sort, alone, player, none, sort_of_law}

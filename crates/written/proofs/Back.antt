@@ -6,9 +6,7 @@ use mathlib.Core.Bool.{true, false≢true, ◌&&◌}
 use mathlib.Core.List.{List, [], ◌∷◌, ◌++◌, append_assoc, append-nil}
 use native.Mathlib.Omega.{arith}
 use lib.ListN.{length, take, drop, length-append}
-use lib.Dec.{eqb}
 use lib.IntN.{negsuc}
-use borrow.Author.Tests.{eqb-true, ltb-true}
 use Rattle.varint.specs.Written.{canonical}
 use Rattle.packer.specs.Texts.{is_data, data_bytes}
 use Rattle.packer.proofs.Places.{past, past_within}

@@ -150,7 +150,7 @@ module _ (v : Version) (s : List ℕ) (ten : List ℤ) (xs : Args) where
       ≡ (parts_inside s (map num ten) && all_writable ten_fields (map (mean s) (map num ten)))
   input cid =
       let ms = map (mean s) (map num ten) in
-      rw (none_of dt large refl 10 ms, none_of str zero_in refl 10 ms, none_of args zero_in_some refl 10 ms, none_of blob long refl 10 ms, all_of 10 ms, ints_inside s ten)
+      rw (none_of dt large refl 10 ms, all_of 10 ms, ints_inside s ten)
 
   message_form : (cid : ℤ) (msg : Part) → Same (items.Message cid msg)
   unfolding record_writable has_form content_writable

@@ -7,7 +7,7 @@ use mathlib.Core.List.{List, [], ◌∷◌, ◌++◌, append_assoc, append-nil, 
 use native.Mathlib.Omega.{arith}
 use lib.ListN.{length, take, drop}
 use lib.Seq.{drop-length}
-use borrow.Author.Tests.{ltb-true, ltb-false, le-leb, eq-eqb}
+use borrow.Author.Tests.{le-leb}
 use Rattle.varint.specs.Integers.{read_int}
 use Rattle.varint.specs.Laws.{Bytes}
 use Rattle.packer.specs.Parts.{shown, read_raw, read_data}
