@@ -5,18 +5,14 @@ use mir.Syntax.{w32}
 use mir.Val.{to_z, of_z}
 use Rattle.state.specs.Reading.{naming}
 use Rattle.state.proofs.Numbers.{Kept}
-use Rattle.ticks.proofs.named.Statement.{statement}
-use Rattle.ticks.proofs.named.Tie as tie
+use Rattle.ticks.proofs.named.Goals as goal
 
-returns : tie.Need-returns
+pub returns : goal.returns
 unfolding naming
 returns c =
-    let a = c.before.before.before.before.args in
+    let a = c.args in
     let k : Kept a.s = search rules in
     let u : to_z w32 (of_z w32 a.cid) ≡ a.cid = search rules in
-    let r = c.before.before.larger-of in
+    let r = c.larger_of-largest in
     let l : to_z w32 (of_z w32 r.result) ≡ r.result = search rules in
     rw (k.tick, u, l, r.ensures, u, k.largest) at c.turn.ensures
-
-pub named_spec : {M : Type 1} → statement M
-named_spec = tie.close (tie.spec (λ c κs. search rules) (λ c κs. search rules) returns)
