@@ -1,0 +1,56 @@
+-- `compare::same_ten` meets its contract. Assumes nothing.
+use borrow.Author.Rules.{rules}
+use Prim.Native.Nat.{◌+◌, ◌-◌, ◌≤◌}
+use mathlib.Core.Path.{◌≡◌, refl, sym, ◌∙◌}
+use mathlib.Core.Bool.{◌&&◌}
+use native.Mathlib.Omega.{arith}
+use lib.ListN.{length, get_or, drop}
+use lib.IntN.{pos}
+use borrow.Author.Tests.{not-true, not-false}
+use Rattle.state.proofs.Numbers.{element}
+use Rattle.compare.specs.Compare.{same_all}
+use Rattle.compare.proofs.Tens.{same_here, same_end}
+use Rattle.compare.proofs.same_ten.Goals as goal
+use Rattle.compare.proofs.same_ten.Goals.{Else-not-same_number, Then-not-same_number}
+
+-- the test of a turn, and what is left to compare after it
+turn : (c : Then-not-same_number)
+    → (let a = c.args in
+    let k = c.loop-k.k in
+    same_all a.t1 a.t2 ≡ (c.same_number.result && same_all (drop (k + 1) a.t1) (drop (k + 1) a.t2)))
+turn c =
+    let a = c.args in
+    let l = c.loop-k in
+    let x = element (get_or a.t1 l.k (pos 0)) c.x-1.given in
+    let y = element (get_or a.t2 l.k (pos 0)) c.y-1.given in
+    let e1 : length a.t1 ≡ 10 = search rules in
+    let e2 : length a.t2 ≡ 10 = search rules in
+    rw (c.same_number.ensures, x, y) (sym l.invariant.1 ∙ same_here a.t1 a.t2 l.k (omega arith) (omega arith))
+
+pub returns-then-not-same_number : goal.returns-then-not-same_number
+returns-then-not-same_number c = sym (turn c ∙ rw (not-true c.same_number.result c.if-not-same_number.true))
+
+-- the test of a turn, and what is left to compare after it
+turn_2 : (c : Else-not-same_number)
+    → (let a = c.args in
+    let k = c.loop-k.k in
+    same_all a.t1 a.t2 ≡ (c.same_number.result && same_all (drop (k + 1) a.t1) (drop (k + 1) a.t2)))
+turn_2 c =
+    let a = c.args in
+    let l = c.loop-k in
+    let x = element (get_or a.t1 l.k (pos 0)) c.x-1.given in
+    let y = element (get_or a.t2 l.k (pos 0)) c.y-1.given in
+    let e1 : length a.t1 ≡ 10 = search rules in
+    let e2 : length a.t2 ≡ 10 = search rules in
+    rw (c.same_number.ensures, x, y) (sym l.invariant.1 ∙ same_here a.t1 a.t2 l.k (omega arith) (omega arith))
+
+pub loop-k-preserved : goal.loop-k-preserved
+loop-k-preserved c = (omega arith, sym (turn_2 c ∙ rw (not-false c.same_number.result c.if-not-same_number.false)))
+
+pub returns : goal.returns
+returns c =
+    let a = c.args in
+    let l = c.loop-k in
+    let e1 : length a.t1 ≡ 10 = search rules in
+    let e2 : length a.t2 ≡ 10 = search rules in
+    sym (sym l.invariant.1 ∙ same_end a.t1 a.t2 l.k (omega arith) (omega arith))
