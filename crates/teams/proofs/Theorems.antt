@@ -1,7 +1,7 @@
 -- The statements of specs/Laws.antt. Assumes nothing.
 use Prim.Native.Nat.{ℕ, ◌+◌, ◌*◌, ◌<◌}
 use mathlib.Core.Path.{◌≡◌, refl, sym, ap, ◌∙◌}
-use mathlib.Core.Bool.{Bool, true, false, cond, ◌&&◌, false≢true}
+use mathlib.Core.Bool.{Bool, true, false, ◌&&◌, false≢true}
 use mathlib.Core.List.{List}
 use native.Mathlib.Omega.{arith}
 use lib.ListN.{length, length-replicate, get_or-replicate}
@@ -13,26 +13,7 @@ use Rattle.state.specs.State.{same_int}
 use Rattle.state.specs.Reading.{Event}
 use Rattle.state.proofs.Every.{by_cond, every_from}
 use Rattle.state.proofs.Numbers.{picks_first, picks_second}
-use Rattle.teams.specs.Teams.{
-  mark_of,
-  number_of,
-  has_team,
-  team_of,
-  is_in,
-  mark_for,
-  with_team,
-  put_team,
-  good_team,
-  good_teams,
-  no_teams,
-  Joining,
-  joins,
-  nobody,
-  joining_of,
-  on_joining,
-  teams_after,
-  former_team,
-}
+use Rattle.teams.specs.Teams.{mark_of, number_of, has_team, team_of, is_in, mark_for, with_team, put_team, good_team, good_teams, no_teams, Joining, joins, nobody, joining_of, on_joining, teams_after}
 use Rattle.teams.specs.Laws.{
   SoundTeams,
   NoTeamsSound,

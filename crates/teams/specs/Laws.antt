@@ -1,5 +1,5 @@
 -- What holds of teams, as statements; proofs/Theorems.antt proves each.
-use Rattle.std.specs.Prelude.{ℕ, ◌<◌, ◌≡◌, Bool, true, false, List, length, ℤ, pos}
+use Rattle.std.specs.Prelude.{ℕ, ◌<◌, ◌≡◌, true, false, List, length, ℤ, pos}
 use Rattle.state.specs.State.{same_int}
 use Rattle.state.specs.Reading.{Event, player_old}
 use Rattle.teams.specs.Teams.{team_of, is_in, put_team, good_teams, no_teams, joins, joining_of, teams_after, former_team}

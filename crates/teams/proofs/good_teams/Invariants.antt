@@ -1,16 +1,15 @@
 -- `teams::good_teams` meets its contract. Assumes nothing.
-use borrow.Author.Rules.{rules}
 use Prim.Native.Nat.{ℕ, ◌≤◌, ◌-◌}
-use mathlib.Core.Path.{◌≡◌, refl}
+use mathlib.Core.Path.{◌≡◌}
 use mathlib.Core.Bool.{Bool}
 use mathlib.Core.List.{List}
-use native.Mathlib.Omega.{arith}
 use lib.IntN.{ℤ}
 use Rattle.state.specs.State.{every}
-use Rattle.state.proofs.Numbers.{element}
-use Rattle.state.proofs.Every.{none_yet, one_more, all_tested}
-use Rattle.teams.specs.Teams.{mark_of, number_of, good_team, good_teams}
+use Rattle.teams.specs.Teams.{mark_of, number_of, good_team}
 use Rattle.teams.proofs.good_teams.Given as goal
+
+abbrev pub good_at : List ℤ → ℕ → Bool
+good_at t c = good_team (mark_of t c) (number_of t c)
 
 abbrev pub invariant-loop-i : goal.invariant-loop-i
 invariant-loop-i l = (l.i ≤ 128) × (l.good ≡ every l.i (good_at l.teams))

@@ -1,11 +1,11 @@
 -- `teams::joining_in` meets its contract. Assumes nothing.
 use mathlib.Core.Path.{◌≡◌, sym, ap, ◌∙◌}
-use mathlib.Core.Bool.{Bool, true, false, cond}
+use mathlib.Core.Bool.{Bool, true, cond}
 use borrow.Author.Rules.{rules}
 use mir.Syntax.{w32}
 use mir.Val.{to_z, of_z}
 use Rattle.item.specs.Contents.{item_of}
-use Rattle.item.specs.declared.Tag.TheVariants.{Plain, Named, Other}
+use Rattle.item.specs.declared.Tag.TheVariants.{Named}
 use Rattle.teams.specs.Teams.{joins, nobody, joining_in}
 use Rattle.teams.proofs.Joins.{joining_told}
 use Rattle.teams.proofs.joining_in.Goals as goal

@@ -6,7 +6,7 @@ use lib.ListN.{set}
 use mir.Syntax.{w32}
 use mir.Val.{to_z, of_z}
 use Rattle.state.proofs.Numbers.{bits_are}
-use Rattle.teams.proofs.Teams.{put_far, put_here}
+use Rattle.teams.proofs.Teams.{put_here}
 use Rattle.teams.proofs.put_team.Goals as goal
 
 pub returns-then-bits-lt128 : goal.returns-then-bits-lt128

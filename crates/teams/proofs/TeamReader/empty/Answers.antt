@@ -1,5 +1,4 @@
 -- `teams::TeamReader::empty` meets its contract. Assumes nothing.
-use borrow.Author.Rules.{rules}
 use mathlib.Core.Path.{ap}
 use Rattle.state.specs.declared.Reader.{Reader}
 use Rattle.teams.specs.Teams.{team_reader, no_teams, empty_team_reader}
