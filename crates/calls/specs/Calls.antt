@@ -1,5 +1,5 @@
 -- Reading calls one behind the other: any list of calls. specs/Along.antt has calls along the bytes of a body. docs/FORMAT.md, "What a call may say".
-use Rattle.std.specs.Prelude.{ℕ, ◌+◌, Bool, true, false, List, [], ◌∷◌, ◌++◌, ℤ}
+use Rattle.std.specs.Prelude.{ℕ, Bool, true, false, List, [], ◌∷◌, ◌++◌, ℤ}
 use Rattle.item.specs.Said.{Said, gives, more, finish, refuses}
 use Rattle.state.specs.Reading.{Event, Step, read_call, reader_after}
 use Rattle.state.specs.declared.Pending.{Pending}
