@@ -17,15 +17,15 @@ use Rattle.compare.proofs.same_ten.Goals.{Else-not-same_number, Then-not-same_nu
 turn : (c : Then-not-same_number)
     → (let a = c.args in
     let k = c.loop-k.k in
-    same_all a.t1 a.t2 ≡ (c.same_number.result && same_all (drop (k + 1) a.t1) (drop (k + 1) a.t2)))
+    same_all a.a a.b ≡ (c.same_number.result && same_all (drop (k + 1) a.a) (drop (k + 1) a.b)))
 turn c =
     let a = c.args in
     let l = c.loop-k in
-    let x = element (get_or a.t1 l.k (pos 0)) c.x-1.given in
-    let y = element (get_or a.t2 l.k (pos 0)) c.y-1.given in
-    let e1 : length a.t1 ≡ 10 = search rules in
-    let e2 : length a.t2 ≡ 10 = search rules in
-    rw (c.same_number.ensures, x, y) (sym l.invariant.1 ∙ same_here a.t1 a.t2 l.k (omega arith) (omega arith))
+    let x = element (get_or a.a l.k (pos 0)) c.x-1.given in
+    let y = element (get_or a.b l.k (pos 0)) c.y-1.given in
+    let e1 : length a.a ≡ 10 = search rules in
+    let e2 : length a.b ≡ 10 = search rules in
+    rw (c.same_number.ensures, x, y) (sym l.invariant.1 ∙ same_here a.a a.b l.k (omega arith) (omega arith))
 
 pub returns-then-not-same_number : goal.returns-then-not-same_number
 returns-then-not-same_number c = sym (turn c ∙ rw (not-true c.same_number.result c.if-not-same_number.true))
@@ -34,15 +34,15 @@ returns-then-not-same_number c = sym (turn c ∙ rw (not-true c.same_number.resu
 turn_2 : (c : Else-not-same_number)
     → (let a = c.args in
     let k = c.loop-k.k in
-    same_all a.t1 a.t2 ≡ (c.same_number.result && same_all (drop (k + 1) a.t1) (drop (k + 1) a.t2)))
+    same_all a.a a.b ≡ (c.same_number.result && same_all (drop (k + 1) a.a) (drop (k + 1) a.b)))
 turn_2 c =
     let a = c.args in
     let l = c.loop-k in
-    let x = element (get_or a.t1 l.k (pos 0)) c.x-1.given in
-    let y = element (get_or a.t2 l.k (pos 0)) c.y-1.given in
-    let e1 : length a.t1 ≡ 10 = search rules in
-    let e2 : length a.t2 ≡ 10 = search rules in
-    rw (c.same_number.ensures, x, y) (sym l.invariant.1 ∙ same_here a.t1 a.t2 l.k (omega arith) (omega arith))
+    let x = element (get_or a.a l.k (pos 0)) c.x-1.given in
+    let y = element (get_or a.b l.k (pos 0)) c.y-1.given in
+    let e1 : length a.a ≡ 10 = search rules in
+    let e2 : length a.b ≡ 10 = search rules in
+    rw (c.same_number.ensures, x, y) (sym l.invariant.1 ∙ same_here a.a a.b l.k (omega arith) (omega arith))
 
 pub loop-k-preserved : goal.loop-k-preserved
 loop-k-preserved c = (omega arith, sym (turn_2 c ∙ rw (not-false c.same_number.result c.if-not-same_number.false)))
@@ -51,6 +51,6 @@ pub returns : goal.returns
 returns c =
     let a = c.args in
     let l = c.loop-k in
-    let e1 : length a.t1 ≡ 10 = search rules in
-    let e2 : length a.t2 ≡ 10 = search rules in
-    sym (sym l.invariant.1 ∙ same_end a.t1 a.t2 l.k (omega arith) (omega arith))
+    let e1 : length a.a ≡ 10 = search rules in
+    let e2 : length a.b ≡ 10 = search rules in
+    sym (sym l.invariant.1 ∙ same_end a.a a.b l.k (omega arith) (omega arith))
