@@ -1,18 +1,9 @@
 -- `inputs::add_ten` meets its contract. Assumes nothing.
-use borrow.Author.Rules.{rules}
-use Prim.Native.Nat.{ℕ, ◌-◌, ◌≤◌}
-use mathlib.Core.Path.{◌≡◌, refl, sym, ◌∙◌}
-use native.Mathlib.Omega.{arith}
-use lib.ListN.{length, get_or, length-set}
-use lib.Seq.{paste, paste-zero}
-use lib.IntN.{ℤ, pos, ◌+ℤ◌}
-use mir.Syntax.{w32}
-use mir.Val.{SFits}
-use Rattle.num.specs.Wrap.{wrap32}
-use Rattle.fields.specs.Views.{zeros}
+use Prim.Native.Nat.{◌-◌, ◌≤◌}
+use mathlib.Core.Path.{◌≡◌}
+use lib.ListN.{length}
+use lib.Seq.{paste}
 use Rattle.state.specs.Reading.{sums}
-use Rattle.state.proofs.Numbers.{added}
-use Rattle.inputs.proofs.Tens.{each_at, turn, filled}
 use Rattle.inputs.proofs.add_ten.Given as goal
 
 abbrev pub invariant-loop-k : goal.invariant-loop-k

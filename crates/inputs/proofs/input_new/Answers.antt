@@ -1,5 +1,4 @@
 -- `inputs::input_new` meets its contract. Assumes nothing.
-use borrow.Author.Rules.{rules}
 use mathlib.Core.Path.{◌∙◌}
 use Rattle.state.specs.steps.Inside.{memory}
 use Rattle.state.proofs.Numbers.{back, bits_are}
@@ -17,6 +16,6 @@ returns c marks xs ys =
     (new_here a.s m a.cid a.ns a.used _ st.ranges.cid b c.if-bits-ge128.false)
 
 pub returns-then-bits-ge128 : goal.returns-then-bits-ge128
-returns-then-bits-ge128 c =
+returns-then-bits-ge128 c marks xs ys =
     let st = c in let a = st.args in let m = memory marks xs ys a.held.now a.inputs.now a.input.now a.former.now in
     c.refuse.ensures m ∙ new_far a.s m a.cid a.ns a.used _ _ st.ranges.cid c.bits-bits.ensures c.if-bits-ge128.true c.no_entry.ensures

@@ -1,11 +1,9 @@
 -- `inputs::put_ten` meets its contract. Assumes nothing.
-use borrow.Author.Rules.{rules}
-use Prim.Native.Nat.{◌-◌, ◌≤◌}
-use mathlib.Core.Path.{◌≡◌, refl}
+use mathlib.Core.Path.{◌≡◌}
 use native.Mathlib.Omega.{arith}
-use lib.ListN.{get_or, take}
+use lib.ListN.{get_or}
 use lib.IntN.{pos}
-use Rattle.state.specs.State.{places, puts, put_ten}
+use Rattle.state.specs.State.{put_ten}
 use Rattle.state.proofs.Numbers.{element}
 use Rattle.inputs.proofs.Tens.{put_turn}
 use Rattle.inputs.proofs.put_ten.Goals as goal
@@ -14,8 +12,8 @@ pub loop-k-preserved : goal.loop-k-preserved
 loop-k-preserved c =
     let a = c.args in
     let l = c.loop-k in
-    let x = element (get_or a.t3 l.k (pos 0)) c.x-1.given in
-    (omega arith, put_turn a.inputs.now a.c a.t3 l.k l.inputs _ l.invariant.1 x c.loop-k-test.true)
+    let x = element (get_or a.t l.k (pos 0)) c.x-1.given in
+    (omega arith, put_turn a.inputs.now a.c a.t l.k l.inputs _ l.invariant.1 x c.loop-k-test.true)
 
 pub returns : goal.returns
 unfolding put_ten
