@@ -23,7 +23,6 @@ told : (r : In-Got-answer) (x : ArgsAnswer) → r.skip_args-answer.result ≡ x
     → let a = r.args in
     item_is (item_after r.in-Got.cid r.in-Got.flag_mask r.in-Got.cmd x) ≡ own (read_rest kinds.ConsoleCommand a.s.now a.at)
 told r x e =
-    let r.cid-1.given = r.cid-1.given in
     let h = r in
     let a = h.args in
     command_own a.s.now a.at h.read_head.result h.read_head.ensures r.in-Got.cid r.in-Got.flag_mask r.in-Got.cmd r.in-Got.next r.in-Got.is
@@ -40,7 +39,6 @@ told_2 : (r : In-RunsOut) (x : ArgsAnswer) → r.skip_args-answer.result ≡ x
     → let a = r.args in
     item_is (item_after r.in-Got.cid r.in-Got.flag_mask r.in-Got.cmd x) ≡ own (read_rest kinds.ConsoleCommand a.s.now a.at)
 told_2 r x e =
-    let r.cid-1.given = r.cid-1.given in
     let h = r in
     let a = h.args in
     command_own a.s.now a.at h.read_head.result h.read_head.ensures r.in-Got.cid r.in-Got.flag_mask r.in-Got.cmd r.in-Got.next r.in-Got.is
@@ -54,7 +52,6 @@ told_3 : (r : In-Refused) (x : ArgsAnswer) → r.skip_args-answer.result ≡ x
     → let a = r.args in
     item_is (item_after r.in-Got.cid r.in-Got.flag_mask r.in-Got.cmd x) ≡ own (read_rest kinds.ConsoleCommand a.s.now a.at)
 told_3 r x e =
-    let r.cid-1.given = r.cid-1.given in
     let h = r in
     let a = h.args in
     command_own a.s.now a.at h.read_head.result h.read_head.ensures r.in-Got.cid r.in-Got.flag_mask r.in-Got.cmd r.in-Got.next r.in-Got.is

@@ -1,6 +1,5 @@
 -- `records::read_dt` meets its contract. Assumes nothing.
 use mathlib.Core.Path.{◌≡◌, sym, ◌∙◌}
-use native.Mathlib.Omega.{arith}
 use mir.Syntax.{w32}
 use mir.Val.{SFits, to_z, of_z}
 use lib.Signed.{mag}

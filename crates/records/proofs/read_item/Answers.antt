@@ -1,11 +1,8 @@
 -- `records::read_item` meets its contract. Assumes nothing.
-use mathlib.Core.Path.{◌≡◌, sym, ◌∙◌, ap}
+use mathlib.Core.Path.{sym, ◌∙◌}
 use Rattle.item.specs.Records.{read_rest}
-use Rattle.records.specs.steps.Views.{own}
 use Rattle.records.specs.declared.Rest.TheVariants as rests
-use Rattle.records.proofs.Rests.{rest_told}
 use Rattle.records.proofs.Beside.{own_by_law, own_read}
-use borrow.Author.Rules.{rules}
 use Rattle.records.proofs.read_item.Goals as goal
 
 pub returns-in-Shaped : goal.returns-in-Shaped
@@ -24,3 +21,5 @@ returns-in-Extension c =
     let o = c in
     let a = o.args in
     own_by_law a.kind a.s.now a.at rests.Extension c.read_ex.result c.read_ex.ensures (sym o.rest_of-rest.ensures ∙ c.in-Extension.is)
+
+-- ?? inline: sym c.before.before.before.rest_of.ensures ∙ c.before.rest.given.1

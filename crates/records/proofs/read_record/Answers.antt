@@ -1,9 +1,8 @@
 -- `records::read_record` meets its contract. Assumes nothing.
-use mathlib.Core.Path.{◌≡◌, refl, sym, ◌∙◌, ap}
+use mathlib.Core.Path.{refl, sym, ◌∙◌, ap}
 use Rattle.item.specs.Records.{read_record}
 use Rattle.item.specs.steps.Reading.{after_kind}
 use Rattle.kinds.specs.steps.Kinds.{kind_is}
-use borrow.Author.Rules.{rules}
 use Rattle.records.proofs.read_record.Goals as goal
 
 pub returns-in-Got : goal.returns-in-Got

@@ -1,11 +1,10 @@
 -- `records::read_rest` meets its contract. Assumes nothing.
-use mathlib.Core.Path.{◌≡◌, sym, ◌∙◌}
+use mathlib.Core.Path.{sym, ◌∙◌}
 use Rattle.item.specs.Records.{read_ex, read_rest}
 use Rattle.kinds.specs.declared.Kind.TheVariants as kinds
 use Rattle.records.specs.declared.Rest.TheVariants as rests
 use Rattle.records.proofs.Rests.{by_rest, rest_told}
 use Rattle.records.proofs.Beside.{lone_shaped, lone_dt, lone_ex, whole_rest}
-use borrow.Author.Rules.{rules}
 use Rattle.records.proofs.read_rest.Goals as goal
 
 pub returns-in-Shaped : goal.returns-in-Shaped
@@ -35,3 +34,5 @@ returns-in-Extension c =
     (whole_rest a.kind a.s.now a.at c.read_ex.result (read_ex a.s.now a.at)
     c.read_ex.ensures (lone_ex a.s.now a.at)
     (rest_told a.kind a.s.now a.at rests.Extension (sym o.rest_of-rest.ensures ∙ c.in-Extension.is)))
+
+-- ?? inline: sym c.before.before.before.rest_of.ensures ∙ c.before.rest.given.1

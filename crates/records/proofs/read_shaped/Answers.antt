@@ -6,9 +6,7 @@ use Rattle.shapes.specs.steps.Shapes.{viewed}
 use Rattle.shapes.specs.declared.FieldsRead.{FieldsRead}
 use Rattle.shapes.specs.declared.FieldsRead.TheVariants as read
 use Rattle.item.specs.Records.{Content, read_rest}
-use Rattle.records.specs.steps.Views.{is_shaped}
 use Rattle.records.proofs.Rests.{of_shape, shaped_read}
-use borrow.Author.Rules.{rules}
 use Rattle.records.proofs.read_shaped.Goals as goal
 use Rattle.records.proofs.read_shaped.Goals.{After-plain_item, In-NegativeLength, In-RunsOut}
 
