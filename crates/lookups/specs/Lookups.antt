@@ -1,5 +1,5 @@
 -- The position and the ten input numbers of a client, or none. docs/FORMAT.md, "Ticks and the board".
-use Rattle.std.specs.Prelude.{Bool, true, false, cond, List, ℤ, pos, negsuc}
+use Rattle.std.specs.Prelude.{true, false, cond, ℤ, pos, negsuc}
 use Rattle.fields.specs.Views.{zeros}
 use Rattle.state.specs.State.{present, x_of, y_of, holds, ten_of}
 use Rattle.state.specs.declared.Entries.{Entries}
