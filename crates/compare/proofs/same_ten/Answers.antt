@@ -1,12 +1,11 @@
 -- `compare::same_ten` meets its contract. Assumes nothing.
 use borrow.Author.Rules.{rules}
-use Prim.Native.Nat.{◌+◌, ◌-◌, ◌≤◌}
-use mathlib.Core.Path.{◌≡◌, refl, sym, ◌∙◌}
+use Prim.Native.Nat.{◌+◌}
+use mathlib.Core.Path.{◌≡◌, sym, ◌∙◌}
 use mathlib.Core.Bool.{◌&&◌}
 use native.Mathlib.Omega.{arith}
 use lib.ListN.{length, get_or, drop}
 use lib.IntN.{pos}
-use borrow.Author.Tests.{not-true, not-false}
 use Rattle.state.proofs.Numbers.{element}
 use Rattle.compare.specs.Compare.{same_all}
 use Rattle.compare.proofs.Tens.{same_here, same_end}
@@ -28,7 +27,7 @@ turn c =
     rw (c.same_number.ensures, x, y) (sym l.invariant.1 ∙ same_here a.a a.b l.k (omega arith) (omega arith))
 
 pub returns-then-not-same_number : goal.returns-then-not-same_number
-returns-then-not-same_number c = sym (turn c ∙ rw (not-true c.same_number.result c.if-not-same_number.true))
+returns-then-not-same_number c = sym (turn c ∙ rw c.if-not-same_number.true)
 
 -- the test of a turn, and what is left to compare after it
 turn_2 : (c : Else-not-same_number)
@@ -45,7 +44,7 @@ turn_2 c =
     rw (c.same_number.ensures, x, y) (sym l.invariant.1 ∙ same_here a.a a.b l.k (omega arith) (omega arith))
 
 pub loop-k-preserved : goal.loop-k-preserved
-loop-k-preserved c = (omega arith, sym (turn_2 c ∙ rw (not-false c.same_number.result c.if-not-same_number.false)))
+loop-k-preserved c = (omega arith, sym (turn_2 c ∙ rw c.if-not-same_number.false))
 
 pub returns : goal.returns
 returns c =

@@ -1,15 +1,8 @@
 -- `compare::same_ten` meets its contract. Assumes nothing.
-use borrow.Author.Rules.{rules}
-use Prim.Native.Nat.{◌+◌, ◌-◌, ◌≤◌}
-use mathlib.Core.Path.{◌≡◌, refl, sym, ◌∙◌}
-use mathlib.Core.Bool.{◌&&◌}
-use native.Mathlib.Omega.{arith}
-use lib.ListN.{length, get_or, drop}
-use lib.IntN.{pos}
-use borrow.Author.Tests.{not-true, not-false}
-use Rattle.state.proofs.Numbers.{element}
+use Prim.Native.Nat.{◌-◌, ◌≤◌}
+use mathlib.Core.Path.{◌≡◌}
+use lib.ListN.{drop}
 use Rattle.compare.specs.Compare.{same_all}
-use Rattle.compare.proofs.Tens.{same_here, same_end}
 use Rattle.compare.proofs.same_ten.Given as goal
 
 abbrev pub invariant-loop-k : goal.invariant-loop-k
