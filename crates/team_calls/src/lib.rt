@@ -1,3 +1,2 @@
 // Reading calls with teams: definitions and what holds of them. No code.
 #![tactic(auto)]
-
