@@ -1,6 +1,6 @@
 -- The board with teams, and stepping back over an event there: positions and inputs as without teams, and above them a client's team.
 -- docs/FORMAT.md, "Stepping back".
-use Rattle.std.specs.Prelude.{ℕ, Bool, true, cond, ◌&&◌, List, ltb, ℤ, pos, negsuc}
+use Rattle.std.specs.Prelude.{Bool, true, cond, ◌&&◌, List, ltb, ℤ, pos, negsuc}
 use Rattle.refusal.specs.declared.Refusal.{Refusal}
 use Rattle.refusal.specs.declared.Refusal.TheVariants.{BadState, NotLast}
 use Rattle.state.specs.Reading.{Event}
