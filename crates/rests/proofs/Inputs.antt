@@ -1,11 +1,11 @@
 -- A kind by whether it is that of an input. Assumes nothing.
-use mathlib.Core.Path.{◌≡◌, refl, sym, ap, subst}
-use mathlib.Core.Bool.{Bool, true, false}
+use mathlib.Core.Path.{◌≡◌, sym, ap, subst}
+use mathlib.Core.Bool.{Bool, false}
 use Rattle.kinds.specs.steps.Kinds.{input_kind}
 use Rattle.kinds.specs.declared.Kind.{Kind}
 use Rattle.kinds.specs.declared.Kind.TheVariants as kinds
 use Rattle.state.specs.Sorts.{sort_of}
-use Rattle.rests.specs.steps.Kinds.{input_of, is_other}
+use Rattle.rests.specs.steps.Kinds.{input_of}
 use Rattle.rests.specs.declared.InputOf.{InputOf}
 use Rattle.rests.specs.declared.InputOf.TheVariants.{Input, NoInput}
 

@@ -1,10 +1,10 @@
 -- Records that change no entry: their client stands among the values that the record itself has. Assumes nothing.
-use Prim.Native.Nat.{ℕ, zero, suc}
+use Prim.Native.Nat.{ℕ, suc}
 use mathlib.Core.Path.{◌≡◌, refl, sym, ap, ◌∙◌}
-use mathlib.Core.Bool.{Bool, true, false, cond, ◌&&◌}
-use mathlib.Core.List.{List, [], ◌∷◌, ◌++◌}
+use mathlib.Core.Bool.{Bool, true, false, cond}
+use mathlib.Core.List.{List, [], ◌∷◌}
 use native.Mathlib.Omega.{arith}
-use lib.ListN.{length, take, get_or}
+use lib.ListN.{length, take}
 use lib.IntN.{ℤ}
 use Rattle.packer.specs.declared.Part.{Part}
 use Rattle.fields.specs.Fields.{Value, num, bytes, strings, Reading, got, runs_out, refused}
@@ -34,7 +34,6 @@ use Rattle.state.specs.Reading.{Step, step_of, other, raising, refusal_step, out
 use Rattle.state.specs.Slim.{slim_step}
 use Rattle.state.specs.steps.Parts.{other_record, with_rest}
 use Rattle.state.specs.declared.Scalars.{Scalars}
-use Rattle.state.proofs.Every.{left_of_law, right_of}
 use Rattle.state.proofs.Places.{RestSort, rest_sort}
 use Rattle.rests.specs.steps.Kinds.{other_sort, is_other}
 use Rattle.rests.proofs.Slim.{slim_calm, calm_refusal, calm_out}
