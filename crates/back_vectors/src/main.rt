@@ -12,10 +12,11 @@
 use back::{BackAnswer, Board, BoardTick, TeamBoard};
 use item::Item;
 use kinds::Version;
-use libc::STDOUT_FILENO;
 use state::{Entries, Event, Reader};
 use teams::Team;
 use texts::Text;
+
+const STDOUT_FILENO: i32 = 1;
 
 fn say(text: &[u8]) {
     io::write_all(STDOUT_FILENO, text);

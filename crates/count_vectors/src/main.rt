@@ -4,10 +4,11 @@
 #![tactic(auto)]
 
 use kinds::Version;
-use libc::STDOUT_FILENO;
 use queries::WantedAnswer;
 use state::Reader;
 use texts::Text;
+
+const STDOUT_FILENO: i32 = 1;
 
 fn print(text: Text) {
     let bytes = text.bytes;

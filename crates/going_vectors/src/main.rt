@@ -23,7 +23,6 @@ use back::{BoardTick, TeamBoard};
 use feed::Hand;
 use going::{Go, GoAnswer, Rewind, Start, StartAnswer};
 use kinds::{Version, VersionOf};
-use libc::STDOUT_FILENO;
 use lookups::{InputOf, Pos};
 use reel::{Counts, Reel};
 use refusal::Refusal;
@@ -31,6 +30,8 @@ use rewinding::{RewindAnswer, Rewound};
 use teams::{Team, TeamReader};
 use texts::Text;
 use varint::Wrote;
+
+const STDOUT_FILENO: i32 = 1;
 
 // ---- lines
 

@@ -5,11 +5,12 @@
 use feed::Hand;
 use kinds::{Version, VersionOf};
 use ladder_turns::After;
-use libc::STDOUT_FILENO;
 use lines::Ending;
 use results::Results;
 use state::Reader;
 use varint::Wrote;
+
+const STDOUT_FILENO: i32 = 1;
 
 // The text of a list.
 fn print_list(list: Results, ending: Ending) {

@@ -6,12 +6,13 @@
 #![tactic(auto)]
 
 use kinds::{Version, VersionOf};
-use libc::STDOUT_FILENO;
 use lines::Ending;
 use many::{ManyAnswer, Stop};
 use state::{Answer, Entries, Reader};
 use teams::TeamReader;
 use texts::{Text, Used};
+
+const STDOUT_FILENO: i32 = 1;
 
 // ---- lines
 

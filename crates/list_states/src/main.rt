@@ -5,13 +5,14 @@
 #![tactic(auto)]
 
 use kinds::Version;
-use libc::STDOUT_FILENO;
 use lines::Ending;
 use listing::{End, ListRead};
 use results::Results;
 use state::Reader;
 use texts::Text;
 use varint::Wrote;
+
+const STDOUT_FILENO: i32 = 1;
 
 // ---- lines
 

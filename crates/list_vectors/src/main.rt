@@ -4,12 +4,13 @@
 #![tactic(auto)]
 
 use kinds::{Version, VersionOf};
-use libc::STDOUT_FILENO;
 use lines::Ending;
 use refusal::Refusal;
 use results::{Counted, Results};
 use state::{Answer, Event, Reader};
 use texts::Text;
+
+const STDOUT_FILENO: i32 = 1;
 
 fn say(text: &[u8]) {
     io::write_all(STDOUT_FILENO, text);

@@ -5,12 +5,13 @@
 
 use back::BoardTick;
 use kinds::{Version, VersionOf};
-use libc::STDOUT_FILENO;
 use lookups::{InputOf, Pos};
 use state::{Event, Reader};
 use team_reading::TeamRead;
 use teams::{Team, TeamReader};
 use texts::{Text, Used};
+
+const STDOUT_FILENO: i32 = 1;
 
 fn say(text: &[u8]) {
     io::write_all(STDOUT_FILENO, text);

@@ -6,10 +6,11 @@
 #![tactic(auto)]
 
 use item::Item;
-use libc::STDOUT_FILENO;
 use results::{Counted, Results};
 use state::Event;
 use texts::Text;
+
+const STDOUT_FILENO: i32 = 1;
 
 fn say(text: &[u8]) {
     io::write_all(STDOUT_FILENO, text);

@@ -16,11 +16,12 @@ ghost use Rattle.std.specs.Prelude.{◌≡◌, ◌≤◌, length};
 
 use back::{Board, BoardTick, TeamBoard};
 use kinds::{Cid, Version};
-use libc::STDOUT_FILENO;
 use state::{Answer, Entries, Pending, Reader, Scalars};
 use team_reading::TeamRead;
 use teams::TeamReader;
 use varint::Wrote;
+
+const STDOUT_FILENO: i32 = 1;
 
 // ---- lines
 

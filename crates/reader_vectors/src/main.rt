@@ -5,9 +5,10 @@
 #![tactic(auto)]
 
 use kinds::{Version, VersionOf};
-use libc::STDOUT_FILENO;
 use state::{Answer, Reader};
 use texts::Text;
+
+const STDOUT_FILENO: i32 = 1;
 
 fn print(text: Text) {
     let bytes = text.bytes;

@@ -9,11 +9,12 @@ ghost use Rattle.std.specs.Prelude.{◌<◌};
 use extensions::Extension;
 use item::{Record, Tag};
 use kinds::{Cid, Version};
-use libc::STDOUT_FILENO;
 use packer::Part;
 use record_call::{CallAnswer, RecordCall};
 use refusal::Refusal;
 use shapes::Fields;
+
+const STDOUT_FILENO: i32 = 1;
 
 // What is printed of each: 1 the kind's client, 2 a number, 4 an identifier, 8 another number, 16 a part, 32 ten numbers, 64 arguments.
 const FIELDS: [u8; 32] = [

@@ -20,7 +20,6 @@ mod under_way;
 use back::{TeamBoard, Undo};
 use item::Item;
 use kinds::Version;
-use libc::STDOUT_FILENO;
 use lookups::{InputOf, Pos};
 use many::Stop;
 use reel::{Counts, KeepAnswer, KeptReel, Reel};
@@ -29,6 +28,8 @@ use state::Event;
 use teams::{Team, TeamReader};
 use texts::Text;
 use varint::Wrote;
+
+const STDOUT_FILENO: i32 = 1;
 
 // ---- lines
 

@@ -5,12 +5,13 @@ use crate::{
 };
 use back::{Board, BoardTick, TeamBoard};
 use going::{Go, GoAnswer, LentGo, Progress, Rewind, Start, StartAnswer};
-use libc::STDOUT_FILENO;
 use reel::Reel;
 use rewinding::Rewound;
 use state::Entries;
 use teams::TeamReader;
 use varint::Wrote;
+
+const STDOUT_FILENO: i32 = 1;
 
 // ---- lines
 

@@ -6,9 +6,10 @@
 #![tactic(auto)]
 
 use kinds::{MagicRead, Version, VersionOf};
-use libc::STDOUT_FILENO;
 use packer::Part;
 use refusal::Refusal;
+
+const STDOUT_FILENO: i32 = 1;
 
 fn say(text: &[u8]) {
     io::write_all(STDOUT_FILENO, text);

@@ -4,9 +4,10 @@
 
 use feed::Hand;
 use kinds::{Version, VersionOf};
-use libc::STDOUT_FILENO;
 use refusal::Refusal;
 use teams::TeamReader;
+
+const STDOUT_FILENO: i32 = 1;
 
 // The first n bytes.
 fn print(text: &[u8], n: usize) {

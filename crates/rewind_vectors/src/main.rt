@@ -7,7 +7,6 @@
 use back::TeamBoard;
 use feed::Hand;
 use kinds::{Version, VersionOf};
-use libc::STDOUT_FILENO;
 use lines::Ending;
 use reel::{Counts, Reel};
 use refusal::Refusal;
@@ -16,6 +15,8 @@ use state::Entries;
 use teams::TeamReader;
 use texts::Text;
 use varint::Wrote;
+
+const STDOUT_FILENO: i32 = 1;
 
 fn say(text: &[u8]) {
     io::write_all(STDOUT_FILENO, text);

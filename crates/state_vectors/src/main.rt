@@ -15,11 +15,12 @@ mod beside;
 use crate::beside::{hold_lent, hold_plain};
 use item::Item;
 use kinds::{Cid, Version};
-use libc::STDOUT_FILENO;
 use state::{Answer, Event, Reader, Scalars};
 use team_reading::TeamRead;
 use teams::{Team, TeamReader};
 use texts::{Text, Used};
+
+const STDOUT_FILENO: i32 = 1;
 
 fn say(text: &[u8]) {
     io::write_all(STDOUT_FILENO, text);

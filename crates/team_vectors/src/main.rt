@@ -4,11 +4,12 @@
 // client that the reader's last three bytes name.
 #![tactic(auto)]
 
-use libc::STDOUT_FILENO;
 use lines::Ending;
 use many::{ManyAnswer, Stop};
 use teams::TeamReader;
 use texts::Text;
+
+const STDOUT_FILENO: i32 = 1;
 
 fn say(text: &[u8]) {
     io::write_all(STDOUT_FILENO, text);

@@ -6,12 +6,13 @@
 
 use back::{BackAnswer, SteppedBack, TeamBoard};
 use kinds::{Version, VersionOf};
-use libc::STDOUT_FILENO;
 use refusal::Refusal;
 use state::Answer;
 use team_reading::TeamRead;
 use teams::TeamReader;
 use texts::{Text, Used};
+
+const STDOUT_FILENO: i32 = 1;
 
 fn say(text: &[u8]) {
     io::write_all(STDOUT_FILENO, text);

@@ -11,10 +11,11 @@
 use fields::Args;
 use item::{Item, Record};
 use kinds::Version;
-use libc::STDOUT_FILENO;
 use packer::Part;
 use record_call::CallAnswer;
 use varint::Wrote;
+
+const STDOUT_FILENO: i32 = 1;
 
 fn say(text: &[u8]) {
     io::write_all(STDOUT_FILENO, text);
