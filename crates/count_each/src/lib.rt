@@ -11,8 +11,7 @@ use state::Reader;
 const MOST: u64 = 4611686018427387904;
 
 // The number of events before finish or a refusal, read one event a call by value; second says that the version is 2.
-#[unsafe(no_mangle)]
-pub extern "C" fn jolzerv_count_each(second: bool, body: &[u8]) -> u64
+pub fn jolzerv_count_each(second: bool, body: &[u8]) -> u64
     ensures { result ≡ event_count (version_if second) body.now }
 {
     let mut reader = Reader::empty(count::version_if(second));

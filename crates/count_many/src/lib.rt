@@ -25,8 +25,7 @@ fn ended(stop: Stop) -> bool
 }
 
 // The number of events before finish or a refusal, read 4,096 events a call; second says that the version is 2.
-#[unsafe(no_mangle)]
-pub extern "C" fn jolzerv_count_many(second: bool, body: &[u8]) -> u64
+pub fn jolzerv_count_many(second: bool, body: &[u8]) -> u64
     ensures { result ≡ event_count (version_if second) body.now }
 {
     let mut rows = [0i32; 32768];

@@ -19,8 +19,7 @@ fn end_number(end: End) -> u64
 
 // The rows into three arrays, in rising order of time: how many they are; the number of the finishes of other clients, and 0 or the number of
 // the refusal that ends the body, into a fourth. second says that the version is 2.
-#[unsafe(no_mangle)]
-pub extern "C" fn jolzerv_list_body(
+pub fn jolzerv_list_body(
     second: bool,
     body: &[u8],
     clients: &mut [i32; 128],

@@ -55,8 +55,7 @@ fn read_all(
 
 // Reads a body whole with a reel beside: the number of its events. The reel is left in three arrays, its counts in a fourth. second says that the
 // version is 2.
-#[unsafe(no_mangle)]
-pub extern "C" fn jolzerv_read_kept(
+pub fn jolzerv_read_kept(
     second: bool,
     body: &[u8],
     rows: &mut [i32; 5120],
@@ -114,8 +113,7 @@ fn put_copy(
 
 // Reads a body whole with a reel beside in arrays lent, and rewinds to a tick: 0, or the number of the refusal. The copy's entries are left in five
 // arrays, its teams in a sixth.
-#[unsafe(no_mangle)]
-pub extern "C" fn jolzerv_rewind_body(
+pub fn jolzerv_rewind_body(
     second: bool,
     body: &[u8],
     tick: i32,
@@ -229,8 +227,7 @@ fn begin(reader: TeamReader, counts: Counts, rows: &[i32; 5120], tick: i32) -> B
 
 // Reads a body whole with a reel beside in arrays lent, and starts a rewind to a tick: 0, or the number of the refusal. The reel is the rewind's own.
 // The copy's entries are left in five arrays, its teams in a sixth, the numbers of the rewind in two more; in a refusal the copy is blank.
-#[unsafe(no_mangle)]
-pub extern "C" fn jolzerv_start_rewind(
+pub fn jolzerv_start_rewind(
     second: bool,
     body: &[u8],
     tick: i32,
@@ -273,8 +270,7 @@ fn go_number(answer: GoAnswer) -> u8
 }
 
 // Goes on with a rewind to a tick by at most so many events: 0 if it has ended, 255 if it is still going, or the number of the refusal.
-#[unsafe(no_mangle)]
-pub extern "C" fn jolzerv_go_on(
+pub fn jolzerv_go_on(
     tick: i32,
     events: usize,
     rows: &[i32; 5120],
