@@ -1,5 +1,5 @@
 -- What holds of a reel, as statements; proofs/Theorems.antt proves each.
-use Rattle.std.specs.Prelude.{ℕ, ◌≡◌, true, List, [], ◌∷◌, length, take, ℤ}
+use Rattle.std.specs.Prelude.{◌≡◌, true, List, [], ◌∷◌, length, take, ℤ}
 use Rattle.state.specs.Reading.{Event}
 use Rattle.teams.specs.declared.Team.{Team}
 use Rattle.back.specs.Undo.{undo_of}
