@@ -1,0 +1,25 @@
+-- `keeping::put_ten` meets its contract. Assumes nothing.
+use borrow.Author.Rules.{rules}
+use Prim.Native.Nat.{◌-◌, ◌≤◌}
+use mathlib.Core.Path.{◌≡◌, refl}
+use native.Mathlib.Omega.{arith}
+use lib.ListN.{get_or, take}
+use lib.IntN.{pos}
+use Rattle.state.specs.State.{places, puts, put_ten}
+use Rattle.state.proofs.Numbers.{element}
+use Rattle.inputs.proofs.Tens.{put_turn}
+use Rattle.keeping.proofs.put_ten.Goals as goal
+
+pub loop-k-preserved : goal.loop-k-preserved
+loop-k-preserved c =
+    let a = c.args in
+    let l = c.loop-k in
+    let x = element (get_or a.t l.k (pos 0)) c.x-1.given in
+    (omega arith, put_turn a.numbers.now a.p a.t l.k l.numbers _ l.invariant.1 x c.loop-k-test.true)
+
+pub returns : goal.returns
+unfolding put_ten
+returns c =
+    let l = c.loop-k in
+    let e : l.k ≡ 10 = omega arith in
+    rw e at l.invariant.1

@@ -1,0 +1,32 @@
+-- `keeping::take_ten` meets its contract. Assumes nothing.
+use borrow.Author.Rules.{rules}
+use Prim.Native.Nat.{ℕ, ◌+◌, ◌-◌, ◌*◌, ◌≤◌}
+use mathlib.Core.Path.{◌≡◌, refl, sym, ◌∙◌}
+use native.Mathlib.Omega.{arith}
+use lib.ListN.{length, get_or, length-set}
+use lib.Seq.{paste, paste-zero}
+use lib.IntN.{ℤ, pos}
+use Rattle.fields.specs.Views.{zeros}
+use Rattle.state.specs.State.{ten_of}
+use Rattle.state.proofs.Numbers.{element}
+use Rattle.inputs.proofs.Tens.{each_at, turn, filled}
+use Rattle.keeping.proofs.take_ten.Goals as goal
+
+pub loop-k-preserved : goal.loop-k-preserved
+unfolding ten_of
+loop-k-preserved c =
+    let a = c.args in
+    let l = c.loop-k in
+    let test = c.loop-k-test.true in
+    let f : ℕ → ℤ = λ k. get_or a.numbers.now (10 * a.p + k) (pos 0) in
+    let x = element (f l.k) c.x-1.given ∙ sym (each_at f l.k test) in
+    let e = turn (zeros 10) (ten_of a.numbers.now a.p) l.k l.t _ l.invariant.1.1 x test test in
+    (omega arith, (length-set l.t l.k _ ∙ l.invariant.1.0, e))
+
+pub returns : goal.returns
+unfolding ten_of
+returns c =
+    let a = c.args in
+    let l = c.loop-k in
+    let e : l.k ≡ 10 = omega arith in
+    l.invariant.1.1 ∙ rw e (filled (zeros 10) (ten_of a.numbers.now a.p) refl refl)
