@@ -2,12 +2,12 @@
 -- teams, of what it leaves of one without. Assumes nothing.
 use Prim.Native.Nat.{ℕ, ◌≤◌, ◌<◌}
 use mathlib.Core.Path.{◌≡◌, refl, sym, ap, ◌∙◌}
-use mathlib.Core.Bool.{Bool, true, false, cond, not, ◌&&◌, false≢true}
+use mathlib.Core.Bool.{Bool, true, false, cond, ◌&&◌, false≢true}
 use mathlib.Core.List.{List}
 use native.Mathlib.Omega.{arith}
 use lib.Dec.{ltb}
 use lib.IntN.{ℤ, pos, negsuc}
-use borrow.Author.Tests.{lt-ltb, le-ltb, not-true, not-false}
+use borrow.Author.Tests.{lt-ltb, le-ltb}
 use mir.Syntax.{w32}
 use mir.Val.{SFits, of_z}
 use Rattle.refusal.specs.declared.Refusal.TheVariants.{NotLast}
@@ -83,26 +83,26 @@ module _ (v : Event) (ten former : List ℤ) (m : Team) (k : BoardTick) (e : Ent
       (sym p ∙ q)
 
   -- the event doesn't fit the teams
-  pub unfit_teams : (fits : Bool) (r : Off) → fits ≡ fits_teams (joining_of v) t → not fits ≡ true → Left false k r
+  pub unfit_teams : (fits : Bool) (r : Off) → fits ≡ fits_teams (joining_of v) t → fits ≡ false → Left false k r
       → team_taken_is r e t ≡ team_taken_from (team_board (board k e) t) whole
   unfolding take_off_team
   unfit_teams fits r p n l =
       ap (λ (x : Off). team_taken_is x e t) l
       ∙ ap (team_taken_from (team_board (board k e) t))
       (picks_second (fits_teams (joining_of v) t) (beside (teams_before (joining_of v) m t) (take_off v ten former k e)) (teamed.refused NotLast)
-      (sym p ∙ not-true fits n))
+      (sym p ∙ n))
 
   -- it does: then the board without teams says whether it fits
-  module _ (fits : Bool) (r : Off) (left : Entries) (p : fits ≡ fits_teams (joining_of v) t) (n : not fits ≡ false)
+  module _ (fits : Bool) (r : Off) (left : Entries) (p : fits ≡ fits_teams (joining_of v) t) (n : fits ≡ true)
       (q : taken_is r left ≡ taken_from (board k e) (take_off v ten former k e)) where
     pub fits_both : (u : List ℤ) → r.fits ≡ true → u ≡ teams_before (joining_of v) m t
         → team_taken_is r left u ≡ team_taken_from (team_board (board k e) t) whole
     fits_both u f w =
         ap (team_taken_is r left) w
         ∙ fits_beside k e t (teams_before (joining_of v) m t) r left (take_off v ten former k e) f q
-        ∙ ap (team_taken_from (team_board (board k e) t)) (fits_then fits p (not-false fits n))
+        ∙ ap (team_taken_from (team_board (board k e) t)) (fits_then fits p n)
 
     pub unfit_board : r.fits ≡ false → team_taken_is r left t ≡ team_taken_from (team_board (board k e) t) whole
     unfit_board f =
         unfit_beside k e t (teams_before (joining_of v) m t) r left (take_off v ten former k e) f q
-        ∙ ap (team_taken_from (team_board (board k e) t)) (fits_then fits p (not-false fits n))
+        ∙ ap (team_taken_from (team_board (board k e) t)) (fits_then fits p n)

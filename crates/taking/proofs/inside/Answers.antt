@@ -1,13 +1,7 @@
 -- `taking::inside` meets its contract. Assumes nothing.
 use borrow.Author.Rules.{rules}
-use mathlib.Core.Path.{refl}
-use Rattle.state.specs.State.{entries_with}
-use Rattle.state.specs.declared.Entries.{Entries}
 use Rattle.state.proofs.Numbers.{back, Three}
-use Rattle.back.specs.Board.{board}
-use Rattle.back.specs.declared.BoardTick.TheVariants.{In}
 use Rattle.back.proofs.Cases.{Same}
-use Rattle.taking.proofs.Cases.{unfit_in, fitting_in}
 use Rattle.taking.proofs.inside.Goals as goal
 use Rattle.taking.proofs.inside.Goals.{After-un_input, After-un_old, After-un_present, After-un_present-in-Change}
 

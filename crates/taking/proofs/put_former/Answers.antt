@@ -23,3 +23,15 @@ returns-in-Team c =
     ∙ ap (λ (z : ℤ). put_team t z c.in-Team.former) cid
     ∙ ap (λ (j : Joining). teams_before j c.in-Team.former t) (sym (player_team_joins c.in-Team.cid c.in-Team.team))
     ∙ told t c.in-Team.is
+
+-- ?? inline: told _ c.enum_told.given.1
+
+-- ?? inline: told _ c.enum-told2.given.1
+
+-- ?? inline: told _ c.enum-told3.given.1
+
+-- ?? inline: told _ c.enum-told4.given.1
+
+-- ?? inline: told _ c.enum-told5.given.1
+
+-- ?? inline: told _ c.enum-told6.given.1

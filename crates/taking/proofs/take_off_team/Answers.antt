@@ -1,5 +1,4 @@
 -- `taking::take_off_team` meets its contract. Assumes nothing.
-use borrow.Author.Rules.{rules}
 use Rattle.state.specs.State.{entries_with}
 use Rattle.state.specs.declared.Entries.{Entries}
 use Rattle.back.specs.Undo.{undone, former_in}
