@@ -1,3 +1,2 @@
 // Demand 3, stated in specs/Demand.antt and proved in proofs/. No code.
 #![tactic(auto)]
-
