@@ -5,7 +5,7 @@ use mathlib.Core.Bool.{Bool, true, false, false≢true, not, cond, ◌&&◌}
 use native.Mathlib.Omega.{arith}
 use lib.Dec.{eqb, ltb, leb}
 use lib.IntN.{ℤ, pos}
-use borrow.Author.Tests.{ltb-true, ltb-false, leb-true, lt-ltb, le-ltb, not-true, not-false}
+use borrow.Author.Tests.{ltb-true, ltb-false, leb-true, lt-ltb, le-ltb}
 use Rattle.refusal.specs.declared.Refusal.{Refusal}
 use Rattle.refusal.specs.declared.Refusal.TheVariants.{BadState, NotLast, TickGone}
 use Rattle.num.proofs.Cases.{by_bool}
@@ -96,34 +96,34 @@ module _ (t : ℤ) (l : Reel) (n : ℕ) where
 -- ---- going on: g is the flag of the test of the copy and of the own reel, s that of the TickStart
 
 module _ (w : Rewind) (n : ℕ) (g : Bool) (good : g ≡ (good_team_board w.board && good_counts w.reel.counts)) where
-  pub bad : not g ≡ true → refused_go BadState w ≡ go_on w n
+  pub bad : g ≡ false → refused_go BadState w ≡ go_on w n
   unfolding go_on
-  bad q = rw (← good, not-true g q)
+  bad q = rw (← good, q)
 
   -- the counts of a good reel
-  pub in_room : not g ≡ false → (w.reel.counts.next < 512) × (w.reel.counts.count ≤ 512)
+  pub in_room : g ≡ true → (w.reel.counts.next < 512) × (w.reel.counts.count ≤ 512)
   in_room q =
       let p = w.reel.counts.next in
       let c = w.reel.counts.count in
-      let e = right_of (good_team_board w.board) (good_counts w.reel.counts) (sym good ∙ not-false g q) in
+      let e = right_of (good_team_board w.board) (good_counts w.reel.counts) (sym good ∙ q) in
       (ltb-true p 512 (left_of_law (ltb p 512) (leb c 512) e), leb-true c 512 (right_of (ltb p 512) (leb c 512) e))
 
-  module _ (q : not g ≡ false) (s : Bool) (has : s ≡ has_start w) where
-    pub gone : not s ≡ true → refused_go TickGone w ≡ go_on w n
+  module _ (q : g ≡ true) (s : Bool) (has : s ≡ has_start w) where
+    pub gone : s ≡ false → refused_go TickGone w ≡ go_on w n
     unfolding go_on
-    gone p = rw (← good, not-false g q, ← has, not-true s p)
+    gone p = rw (← good, q, ← has, p)
 
-    module _ (p : not s ≡ false) where
+    module _ (p : s ≡ true) where
       pub misfitted : w.progress.misfit ≡ true → refused_go NotLast w ≡ go_on w n
       unfolding go_on
-      misfitted e = rw (← good, not-false g q, ← has, not-false s p, e)
+      misfitted e = rw (← good, q, ← has, p, e)
 
       newer_below : w.progress.newer < w.reel.counts.count
       newer_below =
           let k = w.progress.newer in
           let c = w.reel.counts.count in
           by_bool (ltb k c) (ltb-true k c)
-          (λ f. absurd (false≢true (sym (start_beyond w.progress.tick w.reel k (ltb-false k c f)) ∙ sym has ∙ not-false s p)))
+          (λ f. absurd (false≢true (sym (start_beyond w.progress.tick w.reel k (ltb-false k c f)) ∙ sym has ∙ p)))
 
       -- x is what stepping over m rows leaves
       module _ (m : ℕ) (most : m ≡ min n w.progress.newer) (x : Walked)
@@ -134,7 +134,7 @@ module _ (w : Rewind) (n : ℕ) (g : Bool) (good : g ≡ (good_team_board w.boar
         pub went_over : w.progress.misfit ≡ false → gone_from w x ≡ go_on w n
         unfolding go_on
         went_over e =
-            rw (← good, not-false g q, ← has, not-false s p)
+            rw (← good, q, ← has, p)
             (ap (gone_from w) over_is ∙ sym (walk_go n w) ∙ picks_second w.progress.misfit _ _ e)
 
         pub over_within : (x.over ≤ w.reel.counts.count) × (x.over ≤ w.progress.newer)
@@ -146,12 +146,12 @@ module _ (w : Rewind) (n : ℕ) (g : Bool) (good : g ≡ (good_team_board w.boar
 -- ---- what is left after k rows were stepped over: f is the flag that the next one fitted
 
 module _ (f : Bool) (t : BoardTick) (p k : ℕ) (counts : Counts) (w : Progress) where
-  pub left_misfit : not f ≡ true
+  pub left_misfit : f ≡ false
       → record { answer = going.Refused NotLast; tick = t; counts = counts_of p (counts.count - k); progress = progress_of w.tick (w.newer - k) true }
       ≡ lent_of f t p k counts w
-  left_misfit e = rw (not-true f e)
+  left_misfit e = rw (e)
 
-  pub left_over : not f ≡ false → (a : GoAnswer) → a ≡ cond (eqb (w.newer - k) 0) going.Ended going.Going
+  pub left_over : f ≡ true → (a : GoAnswer) → a ≡ cond (eqb (w.newer - k) 0) going.Ended going.Going
       → record { answer = a; tick = t; counts = counts_of p (counts.count - k); progress = progress_of w.tick (w.newer - k) w.misfit }
       ≡ lent_of f t p k counts w
-  left_over e a q = rw (not-false f e, q)
+  left_over e a q = rw (e, q)

@@ -6,7 +6,7 @@ use mathlib.Core.Bool.{Bool, true, false, false≢true, not, cond, ◌&&◌}
 use native.Mathlib.Omega.{arith}
 use lib.Dec.{ltb, leb}
 use lib.IntN.{ℤ}
-use borrow.Author.Tests.{ltb-true, leb-true, not-true, not-false}
+use borrow.Author.Tests.{ltb-true, leb-true}
 use Rattle.refusal.specs.declared.Refusal.{Refusal}
 use Rattle.refusal.specs.declared.Refusal.TheVariants.{BadState, Closed}
 use Rattle.state.specs.State.{good_scalars, good_entries, good_reader}
@@ -43,22 +43,22 @@ unfolding good_team_reader good_reader
 tested r n s e p t q c g es ee ep et eq ec eg = rw (eg, eq, ep, es, ee, et, ec)
 
 module _ (r : TeamReader) (l : Reel) (t : ℤ) (g : Bool) (good : g ≡ (good_team_reader r && good_reel l)) where
-  pub bad : not g ≡ true → soughts.Refused BadState ≡ sought_in r l t
+  pub bad : g ≡ false → soughts.Refused BadState ≡ sought_in r l t
   unfolding sought_in
-  bad n = rw (← good, not-true g n)
+  bad n = rw (← good, n)
 
-  pub in_room : not g ≡ false → (l.counts.next < 512) × (l.counts.count ≤ 512)
-  in_room n = good_room r l (sym good ∙ not-false g n)
+  pub in_room : g ≡ true → (l.counts.next < 512) × (l.counts.count ≤ 512)
+  in_room n = good_room r l (sym good ∙ n)
 
-  module _ (n : not g ≡ false) (k : Bool) (closed : k ≡ closed_by_refusal r.reader.scalars.standing) where
+  module _ (n : g ≡ true) (k : Bool) (closed : k ≡ closed_by_refusal r.reader.scalars.standing) where
     pub refused_reader_law : k ≡ true → soughts.Refused Closed ≡ sought_in r l t
     unfolding sought_in
-    refused_reader_law q = rw (← good, not-false g n, ← closed, q)
+    refused_reader_law q = rw (← good, n, ← closed, q)
 
     -- x is what the search finds
     pub searched : k ≡ false → (x : Newer) → x ≡ newer_than t (rows_of l) → sought_of x ≡ sought_in r l t
     unfolding sought_in
-    searched q x e = rw (← good, not-false g n, ← closed, q, e)
+    searched q x e = rw (← good, n, ← closed, q, e)
 
 -- ---- rewinding
 
