@@ -2,7 +2,7 @@
 use Prim.Native.Nat.{ℕ, ◌≤◌}
 use mathlib.Core.Path.{◌≡◌, refl, sym, ◌∙◌, ap}
 use mathlib.Core.Bool.{Bool, true, false, ◌&&◌, and-true, and-false, and_assoc}
-use mathlib.Core.List.{List, [], ◌∷◌, ◌++◌, map, append-nil}
+use mathlib.Core.List.{List, [], ◌++◌, map, append-nil}
 use native.Mathlib.Omega.{arith}
 use lib.ListN.{length}
 use lib.IntN.{ℤ, pos, negsuc}
@@ -18,7 +18,7 @@ use Rattle.shapes.specs.steps.Shapes.{fields_in, id_part, values_in}
 use Rattle.shapes.specs.declared.Shape.{Shape}
 use Rattle.shapes.specs.declared.Shape.TheVariants as shapes
 use Rattle.shapes.specs.declared.Fields.{Fields}
-use Rattle.extensions.specs.Extensions.{Payload, shaped, all_data, id_at, payload_at, find, is_unknown}
+use Rattle.extensions.specs.Extensions.{Payload, id_at, payload_at, find, is_unknown}
 use Rattle.extensions.specs.declared.Extension.{Extension}
 use Rattle.extensions.specs.declared.Found.TheVariants.{Known, Unknown}
 use Rattle.item.specs.Records.{Content}
@@ -32,7 +32,7 @@ use Rattle.written.specs.Form.{payload_writable}
 use Rattle.extensions.specs.steps.Layouts.{payload_is}
 use Rattle.extensions.specs.declared.Layout.{Layout}
 use Rattle.extensions.specs.declared.Layout.TheVariants as layouts
-use Rattle.pieces.specs.steps.Pieces.{plan_with, plan_of, payload_plan, pieces_bytes, pieces_ok, plan_pieces, pieces_of}
+use Rattle.pieces.specs.steps.Pieces.{plan_with, payload_plan, pieces_bytes, pieces_ok, plan_pieces}
 use Rattle.outlines.specs.steps.Outlines.{outline_with, unwritable, ex_number, content_ok, content_bytes, Outlines}
 use Rattle.pieces.specs.declared.Piece.{Piece}
 use Rattle.pieces.specs.declared.Piece.TheVariants.{Empty, Int, Raw, Data, Id}
