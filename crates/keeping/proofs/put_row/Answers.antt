@@ -2,7 +2,6 @@
 use Prim.Native.Nat.{◌+◌, ◌*◌}
 use mathlib.Core.Path.{◌≡◌}
 use native.Mathlib.Omega.{arith}
-use borrow.Author.Rules.{rules}
 use Rattle.state.specs.State.{put_ten}
 use Rattle.state.proofs.Numbers.{back}
 use Rattle.keeping.proofs.put_row.Goals as goal

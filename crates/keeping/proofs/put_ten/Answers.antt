@@ -1,11 +1,9 @@
 -- `keeping::put_ten` meets its contract. Assumes nothing.
-use borrow.Author.Rules.{rules}
-use Prim.Native.Nat.{◌-◌, ◌≤◌}
-use mathlib.Core.Path.{◌≡◌, refl}
+use mathlib.Core.Path.{◌≡◌}
 use native.Mathlib.Omega.{arith}
-use lib.ListN.{get_or, take}
+use lib.ListN.{get_or}
 use lib.IntN.{pos}
-use Rattle.state.specs.State.{places, puts, put_ten}
+use Rattle.state.specs.State.{put_ten}
 use Rattle.state.proofs.Numbers.{element}
 use Rattle.inputs.proofs.Tens.{put_turn}
 use Rattle.keeping.proofs.put_ten.Goals as goal

@@ -1,13 +1,8 @@
 -- `keeping::put_ten` meets its contract. Assumes nothing.
-use borrow.Author.Rules.{rules}
 use Prim.Native.Nat.{◌-◌, ◌≤◌}
-use mathlib.Core.Path.{◌≡◌, refl}
-use native.Mathlib.Omega.{arith}
-use lib.ListN.{get_or, take}
-use lib.IntN.{pos}
-use Rattle.state.specs.State.{places, puts, put_ten}
-use Rattle.state.proofs.Numbers.{element}
-use Rattle.inputs.proofs.Tens.{put_turn}
+use mathlib.Core.Path.{◌≡◌}
+use lib.ListN.{take}
+use Rattle.state.specs.State.{places, puts}
 use Rattle.keeping.proofs.put_ten.Given as goal
 
 abbrev pub invariant-loop-k : goal.invariant-loop-k

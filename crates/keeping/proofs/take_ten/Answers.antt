@@ -1,10 +1,8 @@
 -- `keeping::take_ten` meets its contract. Assumes nothing.
-use borrow.Author.Rules.{rules}
-use Prim.Native.Nat.{ℕ, ◌+◌, ◌-◌, ◌*◌, ◌≤◌}
+use Prim.Native.Nat.{ℕ, ◌+◌, ◌*◌}
 use mathlib.Core.Path.{◌≡◌, refl, sym, ◌∙◌}
 use native.Mathlib.Omega.{arith}
-use lib.ListN.{length, get_or, length-set}
-use lib.Seq.{paste, paste-zero}
+use lib.ListN.{get_or, length-set}
 use lib.IntN.{ℤ, pos}
 use Rattle.fields.specs.Views.{zeros}
 use Rattle.state.specs.State.{ten_of}

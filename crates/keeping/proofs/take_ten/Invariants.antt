@@ -1,15 +1,9 @@
 -- `keeping::take_ten` meets its contract. Assumes nothing.
-use borrow.Author.Rules.{rules}
-use Prim.Native.Nat.{ℕ, ◌+◌, ◌-◌, ◌*◌, ◌≤◌}
-use mathlib.Core.Path.{◌≡◌, refl, sym, ◌∙◌}
-use native.Mathlib.Omega.{arith}
-use lib.ListN.{length, get_or, length-set}
-use lib.Seq.{paste, paste-zero}
-use lib.IntN.{ℤ, pos}
-use Rattle.fields.specs.Views.{zeros}
+use Prim.Native.Nat.{◌-◌, ◌≤◌}
+use mathlib.Core.Path.{◌≡◌}
+use lib.ListN.{length}
+use lib.Seq.{paste}
 use Rattle.state.specs.State.{ten_of}
-use Rattle.state.proofs.Numbers.{element}
-use Rattle.inputs.proofs.Tens.{each_at, turn, filled}
 use Rattle.keeping.proofs.take_ten.Given as goal
 
 abbrev pub invariant-loop-k : goal.invariant-loop-k
