@@ -1,29 +1,14 @@
 -- The bytes at hand: places inside the buffer, bytes used, bytes moved, bytes read. Assumes nothing.
 use Prim.Native.Nat.{ℕ, zero, suc, ◌+◌, ◌-◌, ◌≤◌, ◌<◌, min}
-use mathlib.Core.Path.{◌≡◌, refl, sym, ◌∙◌, ap}
+use mathlib.Core.Path.{◌≡◌, sym, ◌∙◌, ap}
 use mathlib.Core.List.{List, [], ◌∷◌, ◌++◌, append_assoc}
 use native.Mathlib.Omega.{arith}
 use borrow.Author.Tests.{leb-true, leb-false}
 use lib.Dec.{leb}
-use lib.ListN.{length, take, drop, set, get_or, length-take, length-drop, length-append, drop_of_length-le}
-use lib.Seq.{
-  slice,
-  slice_empty,
-  length-slice,
-  length-take-le,
-  take_all,
-  take-length,
-  take-nil,
-  take_at,
-  drop-nil,
-  drop-drop,
-  get_or-take,
-  get_or-drop,
-  get_or-append-add,
-  paste-suc,
-}
+use lib.ListN.{length, take, drop, set, get_or, length-take, length-append, drop_of_length-le}
+use lib.Seq.{slice, slice_empty, length-slice, length-take-le, take_all, take-length, take-nil, take_at, drop-drop, get_or-take, get_or-drop, get_or-append-add, paste-suc}
 use Rattle.num.proofs.Cases.{by_bool}
-use Rattle.feed.specs.Feed.{unread, kept, passed, grown}
+use Rattle.feed.specs.Feed.{unread, kept}
 use Rattle.feed.specs.steps.Clamped.{clamped}
 use Rattle.feed.specs.Laws.{Passes, Grows}
 use Rattle.feed.specs.declared.Hand.{Hand}
