@@ -3,7 +3,6 @@ use mathlib.Core.Path.{sym, ap, ◌∙◌}
 use Rattle.state.specs.Reading.{is_closed, good_call}
 use Rattle.state.specs.Slim.{slim_step}
 use Rattle.state.proofs.Numbers.{picks_first, picks_second}
-use borrow.Author.Rules.{rules}
 use Rattle.step.proofs.good_call.Goals as goal
 
 pub returns-then-is_closed : goal.returns-then-is_closed

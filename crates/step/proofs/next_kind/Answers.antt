@@ -1,5 +1,4 @@
 -- `step::next_kind` meets its contract. Assumes nothing.
-use borrow.Author.Rules.{rules}
 use Rattle.state.specs.Reading.{next_kind}
 use Rattle.step.proofs.next_kind.Goals as goal
 

@@ -1,8 +1,7 @@
 -- `step::open_call` meets its contract. Assumes nothing.
-use mathlib.Core.Path.{◌≡◌, sym, ap, ◌∙◌}
+use mathlib.Core.Path.{◌∙◌}
 use Rattle.state.specs.steps.Inside.{memory}
 use Rattle.step.proofs.Calls.{kind_got, kind_out, kind_refused_law}
-use borrow.Author.Rules.{rules}
 use Rattle.step.proofs.open_call.Goals as goal
 
 pub returns-in-Got : goal.returns-in-Got

@@ -8,14 +8,13 @@ use Rattle.rests.proofs.Slim.{slim_calm, calm_refusal}
 use Rattle.refusal.specs.declared.Refusal.TheVariants.{TickOverflow}
 use borrow.Author.Rules.{rules}
 use Rattle.step.proofs.with_rule.Goals as goal
-use Rattle.step.proofs.with_rule.Goals.{After-gave, After-gave-in-Ends, After-gave-in-EndsHere}
-
--- ?? Start
--- abbrev given : tie.Start → Memory
--- given c = memory c.args.marks.now c.args.xs.now c.args.ys.now c.args.held.now c.args.inputs.now c.args.input.now c.args.former.now
+use Rattle.step.proofs.with_rule.Goals.{After-gave, After-gave-in-Ends, After-gave-in-EndsHere, After-refuse}
 
 tick : (c : After-gave-in-Ends) → to_z w32 (of_z w32 c.args.s.tick) ≡ c.args.s.tick
 tick c = search rules
+
+abbrev given : After-gave-in-Ends → Memory
+given c = memory c.args.marks.now c.args.xs.now c.args.ys.now c.args.held.now c.args.inputs.now c.args.input.now c.args.former.now
 
 pub returns-in-Ends : goal.returns-in-Ends
 returns-in-Ends c =
@@ -26,20 +25,29 @@ returns-in-Ends c =
 tick_2 : (c : After-gave) → to_z w32 (of_z w32 c.args.s.tick) ≡ c.args.s.tick
 tick_2 c = search rules
 
+abbrev given_2 : After-gave → Memory
+given_2 c = memory c.args.marks.now c.args.xs.now c.args.ys.now c.args.held.now c.args.inputs.now c.args.input.now c.args.former.now
+
 pub returns-in-Starts : goal.returns-in-Starts
 returns-in-Starts c =
     let st = c in
-    rw c.in-Starts.is (rw (c.started.ensures, tick_2 st) at (c.gave.ensures (given st)))
+    rw c.in-Starts.is (rw (c.started.ensures, tick_2 st) at (c.gave.ensures (given_2 st)))
 
 tick_3 : (c : After-gave-in-EndsHere) → to_z w32 (of_z w32 c.args.s.tick) ≡ c.args.s.tick
 tick_3 c = search rules
 
+abbrev given_3 : After-gave-in-EndsHere → Memory
+given_3 c = memory c.args.marks.now c.args.xs.now c.args.ys.now c.args.held.now c.args.inputs.now c.args.input.now c.args.former.now
+
 pub returns-in-EndsHere : goal.returns-in-EndsHere
 returns-in-EndsHere c =
     let st = c in
-    rw c.in-EndsHere.is (rw (c.ended-in-EndsHere.ensures, tick_3 st) at (c.gave-in-EndsHere.ensures (given st)))
+    rw c.in-EndsHere.is (rw (c.ended-in-EndsHere.ensures, tick_3 st) at (c.gave-in-EndsHere.ensures (given_3 st)))
+
+abbrev given_4 : After-refuse → Memory
+given_4 c = memory c.args.marks.now c.args.xs.now c.args.ys.now c.args.held.now c.args.inputs.now c.args.input.now c.args.former.now
 
 pub returns-in-Over : goal.returns-in-Over
 returns-in-Over c =
     let st = c in
-    rw c.in-Over.is (c.refuse.ensures (given st) ∙ sym (slim_calm _ (calm_refusal TickOverflow st.args.s (given st))))
+    rw c.in-Over.is (c.refuse.ensures (given_4 st) ∙ sym (slim_calm _ (calm_refusal TickOverflow st.args.s (given_4 st))))
