@@ -243,8 +243,8 @@ module _ (to : Reader) (u : List ℤ) (free : to.scalars.pending ≡ NoKind) whe
 
   on_reads : {s : At} (cuts : List Cut) → On to u s → On to u (reads s cuts)
   unfolding reads
-  on_reads [] o = o
-  on_reads (c ∷ cs) o = on_reads cs (on_step c o)
+  on_reads {s = s} [] o = o
+  on_reads {s = s} (c ∷ cs) o = on_reads {s = step s c} cs (on_step c o)
 
 pub leads_in_windows : LeadsInWindows
 leads_in_windows r to t bytes js s l p cuts =
