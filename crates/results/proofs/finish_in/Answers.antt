@@ -1,13 +1,13 @@
 -- `results::finish_in` meets its contract. Assumes nothing.
 use mathlib.Core.Path.{◌≡◌, sym, ap, ◌∙◌}
-use mathlib.Core.Bool.{Bool, true, false, cond}
+use mathlib.Core.Bool.{Bool, true, cond}
 use mathlib.Core.List.{[], ◌∷◌}
 use lib.IntN.{ℤ}
 use borrow.Author.Rules.{rules}
 use mir.Syntax.{w32}
 use mir.Val.{to_z, of_z}
 use Rattle.item.specs.Contents.{item_of}
-use Rattle.item.specs.declared.Tag.TheVariants.{Plain, Named, Other}
+use Rattle.item.specs.declared.Tag.TheVariants.{Named}
 use Rattle.results.specs.Results.{finish, finish_in}
 use Rattle.results.proofs.Finishes.{finish_told}
 use Rattle.results.proofs.finish_in.Goals as goal

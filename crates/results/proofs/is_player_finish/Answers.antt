@@ -1,6 +1,5 @@
 -- `results::is_player_finish` meets its contract: each arm compares two identifiers. Assumes nothing.
 use mathlib.Core.Path.{◌≡◌, sym, ap}
-use borrow.Author.Rules.{rules}
 use Rattle.kinds.specs.Magic.{same_bytes}
 use Rattle.extensions.specs.Extensions.{id_at, extension_row}
 use Rattle.extensions.specs.declared.Extension.{Extension}

@@ -39,12 +39,12 @@ returns-then-bits-lt128 c =
     let at = c in
     let st = at in
     let b = at.bits-bits in
-    let z = c.keep_row.new.1.1.1 in
+    let z = c.keep_row.new in
     let n = st.args.others in
     let s : SFits w32 at.in-Finish.cid = search rules in
     let q = client_is at.in-Finish.cid b.result s (bits_are at.in-Finish.cid b.result s b.ensures) c.if-bits-lt128.true in
     let v : to_z w32 (of_z w32 at.in-Finish.time) ≡ at.in-Finish.time = search rules in
-    keeps_row (listAt_2 st) (results_with z.0 z.1.0 z.1.1.0 n) _ (finishAt at) (found at)
+    keeps_row (listAt_2 st) (results_with z.marks z.times z.ticks n) _ (finishAt at) (found at)
     (rw q (rw (v, back st.args.tick st.ranges.tick) at (c.keep_row.ensures n))) st.ranges.others.fits
 
 abbrev listAt_3 : After-count_other → Results
