@@ -6,7 +6,6 @@ use mathlib.Core.List.{List}
 use lib.Dec.{ltb}
 use lib.IntN.{ℤ, pos, negsuc}
 use lib.Signed.{non_neg}
-use borrow.Author.Tests.{not-true, not-false}
 use Rattle.refusal.specs.declared.Refusal.TheVariants.{BadState, NotLast}
 use Rattle.state.specs.State.{same_int, present, x_of, y_of, with_player, holds, ten_of, good_entries}
 use Rattle.state.specs.Reading.{
@@ -114,9 +113,9 @@ unfolding good_team_board good_board
 good_is b t e s g h p q r o w = rw (w, r, o, p, q)
 
 module _ (b : TeamBoard) (u : Event) (ten former : List ℤ) (m : Team) (g : Bool) (q : g ≡ good_team_board b) where
-  pub bad : not g ≡ true → refused BadState ≡ team_step_back b u ten former m
+  pub bad : g ≡ false → refused BadState ≡ team_step_back b u ten former m
   unfolding team_step_back
-  bad n = rw (← q, not-true g n)
+  bad n = rw (← q, n)
 
   taken_one : One b (take_off_team u ten former m b)
   unfolding take_off_team
@@ -125,6 +124,6 @@ module _ (b : TeamBoard) (u : Event) (ten former : List ℤ) (m : Team) (g : Boo
       (beside (teams_before (joining_of u) m b.teams) (take_off u ten former b.board.tick b.board.entries))
       (whole b (teams_before (joining_of u) m b.teams) u ten former b.board.tick b.board.entries)
 
-  pub good : not g ≡ false → handed (team_taken_from b (take_off_team u ten former m b)) ≡ stepped_from b (team_step_back b u ten former m)
+  pub good : g ≡ true → handed (team_taken_from b (take_off_team u ten former m b)) ≡ stepped_from b (team_step_back b u ten former m)
   unfolding team_step_back
-  good n = rw (← q, not-false g n) taken_one
+  good n = rw (← q, n) taken_one
