@@ -1,17 +1,16 @@
 -- The arguments beside what a call says: those of a command, read again; else none. Assumes nothing.
 use Prim.Native.Nat.{ℕ}
 use mathlib.Core.Path.{◌≡◌, refl, sym, ap, subst, ◌∙◌}
-use mathlib.Core.Bool.{Bool, true, false, cond}
+use mathlib.Core.Bool.{Bool, true, false}
 use mathlib.Core.List.{List, [], ◌++◌}
-use lib.ListN.{take}
 use lib.IntN.{ℤ}
 use Rattle.packer.specs.declared.Part.{Part}
-use Rattle.fields.specs.Fields.{Value, Reading, got}
+use Rattle.fields.specs.Fields.{Value, got}
 use Rattle.fields.specs.Views.{args_with}
 use Rattle.fields.specs.declared.Args.{Args}
 use Rattle.fields.proofs.Answers.{not_out, not_refused}
 use Rattle.item.specs.Said.{Said, gives, more, finish, refuses}
-use Rattle.item.specs.Records.{Content, content, read_rest}
+use Rattle.item.specs.Records.{Content, content}
 use Rattle.item.specs.Contents.{item_of, beside_of, parts_of, with_beside, no_args, args_in, record_of}
 use Rattle.item.specs.steps.Beside.{beside}
 use Rattle.kinds.specs.Kinds.{Beside, nothing, ten, arguments, of_extension, by_beside}

@@ -1,11 +1,9 @@
--- A test that was turned round. Assumes nothing.
+-- A test, by the value that it tests. Assumes nothing.
 use mathlib.Core.Path.{◌≡◌, sym, ◌∙◌}
-use mathlib.Core.Bool.{Bool, true, false, not}
+use mathlib.Core.Bool.{Bool, true, false}
 
-pub off : (b x : Bool) → b ≡ x → not b ≡ true → x ≡ false
-off true x e h = sym e ∙ sym h
-off false x e h = sym e
+pub off : (b x : Bool) → b ≡ x → b ≡ false → x ≡ false
+off b x e h = sym e ∙ h
 
-pub on : (b x : Bool) → b ≡ x → not b ≡ false → x ≡ true
-on true x e h = sym e
-on false x e h = sym e ∙ sym h
+pub on : (b x : Bool) → b ≡ x → b ≡ true → x ≡ true
+on b x e h = sym e ∙ h

@@ -1,8 +1,8 @@
 -- A record that is no command has nothing beside it: it is whole without arguments. Assumes nothing.
 use Prim.Native.Nat.{ℕ, suc}
-use mathlib.Core.Path.{◌≡◌, refl, sym, ap, ◌∙◌}
+use mathlib.Core.Path.{◌≡◌, refl, sym, ap}
 use mathlib.Core.Bool.{true, false}
-use mathlib.Core.List.{List, [], ◌∷◌, ◌++◌, append-nil}
+use mathlib.Core.List.{List, [], ◌∷◌, append-nil}
 use native.Mathlib.Omega.{arith}
 use lib.ListN.{length, take}
 use lib.Seq.{take_all}
@@ -20,13 +20,13 @@ use Rattle.extensions.specs.declared.Found.{Found}
 use Rattle.extensions.specs.declared.Found.TheVariants.{Known, Unknown}
 use Rattle.item.specs.Records.{Content, content, as_content, of_payload, of_found, read_ex, read_rest}
 use Rattle.item.specs.steps.Reading.{up_to, after_data, after_id}
-use Rattle.item.specs.Contents.{own_payload, with_beside, no_args}
+use Rattle.item.specs.Contents.{with_beside, no_args}
 use Rattle.item.specs.Own.{own_fields}
 use Rattle.item.specs.steps.Beside.{beside}
 use Rattle.kinds.specs.declared.Kind.{Kind}
 use Rattle.kinds.specs.declared.Kind.TheVariants as kinds
 use Rattle.item.specs.declared.Tag.{Tag}
-use Rattle.item.specs.declared.Tag.TheVariants.{Plain, Named, Other}
+use Rattle.item.specs.declared.Tag.TheVariants.{Plain, Named}
 use Rattle.item.specs.Own.{own_content}
 use Rattle.rests.specs.steps.Kinds.{is_other}
 use Rattle.rests.proofs.Others.{no_other, by_other}

@@ -1,8 +1,7 @@
 -- `arguments::args_of` meets its contract. Assumes nothing.
-use mathlib.Core.Path.{◌≡◌, sym, ◌∙◌}
-use Rattle.arguments.proofs.Tests.{off, on}
-use Rattle.arguments.proofs.Arguments.{args_none, args_plain, args_command, args_out, args_refused}
-use borrow.Author.Rules.{rules}
+use mathlib.Core.Path.{sym, ◌∙◌}
+use Rattle.arguments.proofs.Tests.{on}
+use Rattle.arguments.proofs.Arguments.{args_plain, args_command, args_out, args_refused}
 use Rattle.arguments.proofs.args_of.Goals as goal
 
 pub returns-then-is_command : goal.returns-then-is_command

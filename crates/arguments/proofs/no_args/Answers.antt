@@ -1,7 +1,6 @@
 -- `arguments::no_args` meets its contract. Assumes nothing.
 use mathlib.Core.Path.{refl}
 use Rattle.fields.specs.Views.{args_with}
-use borrow.Author.Rules.{rules}
 use Rattle.arguments.proofs.no_args.Goals as goal
 
 pub returns : goal.returns
