@@ -17,8 +17,8 @@ use std::process::ExitCode;
 const SORTS: [&str; 4] = ["match", "moves", "inputs", "chat"];
 const MEGABYTES: [u64; 3] = [5, 20, 80];
 const ORACLE: &str = concat!(env!("CARGO_MANIFEST_DIR"), "/../oracle/target/oracle");
-const REPLAY: &str = concat!(env!("CARGO_MANIFEST_DIR"), "/../target/bin/replay");
-const LADDER: &str = concat!(env!("CARGO_MANIFEST_DIR"), "/../target/bin/ladder");
+const REPLAY: &str = concat!(env!("CARGO_MANIFEST_DIR"), "/../crates/replay/out/replay");
+const LADDER: &str = concat!(env!("CARGO_MANIFEST_DIR"), "/../crates/ladder/out/ladder");
 
 fn main() -> ExitCode {
     let arguments: Vec<String> = std::env::args().skip(1).collect();
