@@ -191,16 +191,17 @@ pub fn read_many(
 ) -> ManyAnswer
     ensures { ManyIs (many_calls (room rows.old tens.old) reader window.now last) reader.teams rows.old tens.old result rows.new tens.new }
 {
-    let teams = reader.teams;
-    let plain = reader.reader;
-    let scalars = plain.scalars;
-    let entries = plain.entries;
+    let scalars = reader.reader.scalars;
     if !good::both(
-        good::both(
-            good_reader::good_scalars(scalars),
-            good::good_entries(entries),
+        good_reader::good_state(
+            scalars,
+            &reader.reader.entries.marks,
+            &reader.reader.entries.xs,
+            &reader.reader.entries.ys,
+            &reader.reader.entries.held,
+            &reader.reader.entries.inputs,
         ),
-        teams::good_teams(&teams),
+        teams::good_teams(&reader.teams),
     ) {
         return unread(Stop::Refused(Refusal::BadState), reader);
     }
@@ -209,5 +210,8 @@ pub fn read_many(
         return unread(Stop::Refused(Refusal::Closed), reader);
     }
     let free = rows::room_for(rows.len(), tens.len());
+    let teams = reader.teams;
+    let plain = reader.reader;
+    let entries = plain.entries;
     read_good(scalars, entries, teams, window, last, rows, tens, free)
 }
