@@ -119,11 +119,11 @@ pub fn read(reader: Reader, window: &[u8], last: bool) -> ReadAnswer
     let mut ys = entries.ys;
     let mut held = entries.held;
     if !good_reader::good_state(scalars, &marks, &xs, &ys, &held, &entries.inputs) {
-        return refused(reader, Refusal::BadState);
+        return refused(Reader { scalars, entries }, Refusal::BadState);
     }
     let standing = scalars.standing;
     if standing.is_closed() {
-        return refused(reader, Refusal::Closed);
+        return refused(Reader { scalars, entries }, Refusal::Closed);
     }
     let told = open_told(
         scalars,
