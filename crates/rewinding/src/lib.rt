@@ -104,17 +104,27 @@ fn closed_by_refusal(standing: Standing) -> bool
 pub fn seek(reader: TeamReader, counts: Counts, rows: &[i32; 5120], tick: i32) -> Sought
     ensures { (inputs formers : List ℤ) → result ≡ sought_in reader (reel_of counts rows.now inputs formers) tick }
 {
-    let teams = reader.teams;
-    let plain = reader.reader;
-    let scalars = plain.scalars;
-    let entries = plain.entries;
+    seek_lent(&reader, counts, rows, tick)
+}
+
+// The same for a reader that is lent.
+fn seek_lent(reader: &TeamReader, counts: Counts, rows: &[i32; 5120], tick: i32) -> Sought
+    ensures { (inputs formers : List ℤ) → result ≡ sought_in reader.now (reel_of counts rows.now inputs formers) tick }
+{
+    let scalars = reader.reader.scalars;
     if !good::both(
         good::both(
             good::both(
                 good_reader::good_scalars(scalars),
-                good::good_entries(entries),
+                good::good_lent(
+                    &reader.reader.entries.marks,
+                    &reader.reader.entries.xs,
+                    &reader.reader.entries.ys,
+                    &reader.reader.entries.held,
+                    &reader.reader.entries.inputs,
+                ),
             ),
-            teams::good_teams(&teams),
+            teams::good_teams(&reader.teams),
         ),
         reel::good_counts(counts),
     ) {
@@ -314,7 +324,7 @@ pub fn rewind_lent(
 ) -> Rewound
     ensures { result ≡ rewound_of (rewind_to reader (reel_of counts rows.now inputs.now formers.now) tick) }
 {
-    match seek(reader, counts, rows, tick) {
+    match seek_lent(&reader, counts, rows, tick) {
         Sought::Newer(n) => over_newest(
             back::team_board_of(reader),
             n,
