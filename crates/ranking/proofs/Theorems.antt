@@ -1,23 +1,19 @@
 -- The statements of specs/Laws.antt. Assumes nothing.
-use Prim.Native.Nat.{ℕ, zero, suc, ◌≤◌}
+use Prim.Native.Nat.{◌≤◌}
 use mathlib.Core.Path.{◌≡◌, refl}
 use mathlib.Core.Logic.{◌⊎◌, inl, inr}
-use mathlib.Core.Bool.{Bool, true, ◌&&◌}
-use mathlib.Core.List.{List, [], ◌∷◌}
+use mathlib.Core.Bool.{true}
+use mathlib.Core.List.{List, []}
 use native.Mathlib.Omega.{arith}
-use lib.ListN.{length}
-use lib.IntN.{pos}
 use lib.Signed.{le_z}
 use borrow.Author.Tests.{eq-eqb}
 use Rattle.fields.proofs.Answers.{and_both}
 use Rattle.state.specs.State.{same_int}
-use Rattle.results.specs.Results.{Finish, best, bests_below}
-use Rattle.results.specs.Laws.{Among, IsCounted, HasRow}
-use Rattle.results.proofs.Bests.{KeptOf, kept_best}
+use Rattle.results.specs.Results.{Finish, best}
+use Rattle.results.specs.Laws.{IsCounted, HasRow}
 use Rattle.results.proofs.Theorems.{every_finish_listed, first_lowest}
-use Rattle.ranking.specs.Ranking.{how_many, InOrder}
+use Rattle.ranking.specs.Ranking.{how_many}
 use Rattle.ranking.specs.Laws.{RowsOf, of_client, no_higher, EveryFinish, EachRowIsFinish, AtMostOneRow, AtMost128}
-use Rattle.ranking.proofs.Order.{joined}
 use Rattle.ranking.proofs.Counts.{is_below, row_among, rows_are_below, fewer_of, client_rows, at_most_one, few_rows, all_pass}
 
 no_higher_row : (fs : List Finish) (f : Finish) (h : HasRow f fs) → no_higher f h.row ≡ true
