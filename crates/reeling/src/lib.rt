@@ -211,18 +211,19 @@ pub fn read_kept(
         (reel_of counts rows.old inputs.old formers.old) result
         (reel_of result.counts rows.new inputs.new formers.new) }
 {
-    let teams = reader.teams;
-    let plain = reader.reader;
-    let scalars = plain.scalars;
-    let entries = plain.entries;
+    let scalars = reader.reader.scalars;
     if !good::both(
         reel::good_counts(counts),
         good::both(
-            good::both(
-                good_reader::good_scalars(scalars),
-                good::good_entries(entries),
+            good_reader::good_state(
+                scalars,
+                &reader.reader.entries.marks,
+                &reader.reader.entries.xs,
+                &reader.reader.entries.ys,
+                &reader.reader.entries.held,
+                &reader.reader.entries.inputs,
             ),
-            teams::good_teams(&teams),
+            teams::good_teams(&reader.teams),
         ),
     ) {
         return unread(Refusal::BadState, reader, counts);
@@ -231,6 +232,9 @@ pub fn read_kept(
     if standing.is_closed() {
         return unread(Refusal::Closed, reader, counts);
     }
+    let teams = reader.teams;
+    let plain = reader.reader;
+    let entries = plain.entries;
     keep_good(
         scalars, entries, teams, window, last, most, counts, rows, inputs, formers,
     )
