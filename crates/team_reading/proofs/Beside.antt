@@ -9,7 +9,7 @@ use Rattle.item.specs.Records.{Content, content}
 use Rattle.item.specs.Contents.{item_of, with_beside}
 use Rattle.item.specs.declared.Tag.{Tag}
 use Rattle.item.specs.declared.Tag.TheVariants.{Plain, Named, Other}
-use Rattle.state.specs.Reading.{Event, other}
+use Rattle.state.specs.Reading.{other}
 use Rattle.state.specs.Slim.{said_is}
 use Rattle.state.specs.Views.{event_is}
 use Rattle.state.specs.declared.Event as code
