@@ -22,7 +22,7 @@ use Rattle.team_calls.proofs.Above.{so_far_sound}
 use Rattle.back.specs.Board.{good_board}
 use Rattle.back.specs.Back.{Back, take_off, step_back}
 use Rattle.back.specs.Back as back
-use Rattle.back.specs.TeamBoard.{team_board, good_team_board, TeamBack, was, refused, beside, fits_teams, teams_before, take_off_team, team_step_back}
+use Rattle.back.specs.TeamBoard.{team_board, good_team_board, TeamBack, was, beside, fits_teams, teams_before, take_off_team, team_step_back}
 use Rattle.back.specs.declared.Board.{Board}
 use Rattle.demand.specs.Events.{back_over}
 use Rattle.demand.specs.TeamEvents.{team_back_over, team_after_one, last_team}

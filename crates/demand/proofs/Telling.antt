@@ -1,6 +1,6 @@
 -- What the events tell of the entries is kept by each event. Assumes nothing.
 use Prim.Native.Nat.{ℕ, ◌+◌, ◌<◌}
-use mathlib.Core.Path.{◌≡◌, refl, sym, ◌∙◌, ap}
+use mathlib.Core.Path.{◌≡◌, refl, sym, ◌∙◌, ap, subst}
 use mathlib.Core.Bool.{Bool, true, false, false≢true}
 use mathlib.Core.List.{List, ◌∷◌}
 use native.Mathlib.Omega.{arith}
@@ -78,14 +78,21 @@ module _ (e : Entries) (z : Sizes e) (k : ℕ) (hk : k < 128) (h : List Seen) (t
 
   has : (c : ℕ) → eqb m 1 ≡ here → Dec (c ≡ k) → present (with_player e k m x y) c ≡ is_present (pos c) (s ∷ h)
   unfolding is_present
-  has c p (yes i) = rw (i, lt-ltb k 128 hk, mark_set e z k hk m) p
+  has c p (yes i) =
+      subst (λ (v : ℕ). present (with_player e k m x y) v ≡ is_present (pos v) (s ∷ h)) (sym i)
+      (rw (lt-ltb k 128 hk, mark_set e z k hk m) p)
   has c p (no i) =
       rw ((quiet (pos c) (ne_eqb c k i)).present (is_present (pos c) h), get_or-set_other e.marks k c m 0 i) (t.presence c)
 
   stands : (c : ℕ) → (here ≡ true → ◌≡◌ {A = ℤ × ℤ} (x, y) (at sum)) → Dec (c ≡ k) → is_present (pos c) (s ∷ h) ≡ true
       → ◌≡◌ {A = ℤ × ℤ} (x_of (with_player e k m x y) c, y_of (with_player e k m x y) c) (at (sum_of (pos c) (s ∷ h)))
   unfolding is_present sum_of
-  stands c q (yes i) = rw (i, x_set e z k hk x, y_set e z k hk y) q
+  stands c q (yes i) =
+      subst
+      (λ (v : ℕ).
+      is_present (pos v) (s ∷ h) ≡ true
+      → ◌≡◌ {A = ℤ × ℤ} (x_of (with_player e k m x y) v, y_of (with_player e k m x y) v) (at (sum_of (pos v) (s ∷ h)))) (sym i)
+      (rw (x_set e z k hk x, y_set e z k hk y) q)
   stands c q (no i) =
       let u = quiet (pos c) (ne_eqb c k i) in
       rw (u.present (is_present (pos c) h), u.sum (difference (take s.used s.window)) (sum_of (pos c) h), get_or-set_other e.xs k c x (pos 0) i, get_or-set_other e.ys k c y (pos 0) i)
