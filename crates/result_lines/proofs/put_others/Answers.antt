@@ -1,6 +1,5 @@
 -- `result_lines::put_others` meets its contract. Assumes nothing.
 use native.Mathlib.Omega.{arith}
-use borrow.Author.Rules.{rules}
 use Rattle.packer.proofs.Joined.{two_puts}
 use Rattle.lines.specs.Lines.{decimal_digits, newline, text}
 use Rattle.lines.specs.steps.Puts.{PutsText}

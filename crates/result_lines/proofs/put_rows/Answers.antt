@@ -1,14 +1,12 @@
 -- `result_lines::put_rows` meets its contract. The loop's invariant: the lines still to come, put at the next place, make of the target what
 -- all of them make of it. Assumes nothing.
-use Prim.Native.Nat.{◌-◌}
 use mathlib.Core.Path.{◌≡◌}
-use native.Mathlib.Omega.{arith}
 use lib.ListN.{get_or}
 use lib.IntN.{pos}
 use mir.Syntax.{w32}
 use mir.Val.{to_z, of_z}
 use Rattle.state.proofs.Numbers.{element}
-use Rattle.result_lines.proofs.Rows.{Left, begins, onward, done}
+use Rattle.result_lines.proofs.Rows.{onward, done}
 use Rattle.result_lines.proofs.put_rows.Goals as goal
 
 pub loop-i-preserved : goal.loop-i-preserved

@@ -1,7 +1,6 @@
 -- `result_lines::put_text` meets its contract. Assumes nothing.
 use Prim.Native.Nat.{◌≤◌}
 use native.Mathlib.Omega.{arith}
-use borrow.Author.Rules.{rules}
 use lib.ListN.{length}
 use Rattle.lines.specs.Lines.{longest, last_line}
 use Rattle.result_lines.specs.steps.Rows.{rows_in}

@@ -1,10 +1,9 @@
 -- `result_lines::write_list` meets its contract. Assumes nothing.
 use Prim.Native.Nat.{◌+◌, ◌≤◌}
 use mathlib.Core.Path.{refl, sym, ◌∙◌}
-use borrow.Author.Rules.{rules}
-use borrow.Author.Tests.{leb-true, leb-false}
+use borrow.Author.Tests.{leb-true}
 use lib.ListN.{length}
-use Rattle.lines.proofs.Texts.{too_short, line_put}
+use Rattle.lines.proofs.Texts.{line_put}
 use Rattle.result_lines.specs.ResultLines.{list_text, longest_list}
 use Rattle.result_lines.proofs.Order.{ranked_few, ranked}
 use Rattle.result_lines.proofs.write_list.Goals as goal
