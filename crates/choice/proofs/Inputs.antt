@@ -14,7 +14,7 @@ use borrow.Author.Tests.{lt-ltb, eqb-true}
 use Rattle.num.proofs.Cases.{by_bool}
 use Rattle.fields.specs.Views.{zeros}
 use Rattle.kinds.specs.declared.Kind.TheVariants as kinds
-use Rattle.state.specs.State.{same_int, entries_with, holds, ten_of, with_input, ten_zeros, good_players, good_inputs, good_entries}
+use Rattle.state.specs.State.{same_int, entries_with, ten_of, with_input, ten_zeros, good_players, good_inputs, good_entries}
 use Rattle.state.specs.steps.Parts.{good_input}
 use Rattle.state.specs.declared.Entries.{Entries}
 use Rattle.state.specs.declared.Reader.{Reader}

@@ -1,5 +1,5 @@
 -- Which records bring a reader to a wanted board: free, and this is the choice. docs/FORMAT.md, "From a wanted board to a recording".
-use Rattle.std.specs.Prelude.{ℕ, zero, suc, ◌+◌, ◌-◌, Bool, true, false, not, cond, ◌&&◌, List, [], ◌∷◌, ◌++◌, map, get_or, ltb, eqb, ℤ, pos, negsuc, ◌-ℤ◌}
+use Rattle.std.specs.Prelude.{ℕ, zero, suc, ◌-◌, Bool, true, false, not, cond, ◌&&◌, List, [], ◌∷◌, ◌++◌, map, get_or, ltb, eqb, ℤ, pos, negsuc, ◌-ℤ◌}
 use Rattle.num.specs.Wrap.{wrap32}
 use Rattle.fields.specs.Fields.{num, bytes, strings}
 use Rattle.kinds.specs.declared.Kind.{Kind}

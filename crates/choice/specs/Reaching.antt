@@ -1,5 +1,5 @@
 -- From a reader and a wanted board to the bytes of records that bring the reader there. docs/FORMAT.md, "From a wanted board to a recording".
-use Rattle.std.specs.Prelude.{ℕ, ◌+◌, ◌≡◌, Bool, true, not, cond, ◌&&◌, ◌||◌, List, [], ℤ, pos}
+use Rattle.std.specs.Prelude.{ℕ, ◌≡◌, Bool, true, not, cond, ◌&&◌, ◌||◌, List, [], ℤ, pos}
 use Rattle.std.specs.Int.Signed.{lt_z}
 use Rattle.refusal.specs.Said.{Said, refusing}
 use Rattle.refusal.specs.declared.Refusal.{Refusal}

@@ -1,7 +1,6 @@
 // Which records bring a reader to a wanted board, and when none do: defined in specs/. Here are only the types of a client's entries.
 #![tactic(auto)]
 
-
 // A client's player entry.
 #[derive(Clone, Copy)]
 pub struct Player {
