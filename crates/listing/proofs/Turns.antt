@@ -11,7 +11,7 @@ use Rattle.refusal.specs.Numbers.{number_of, values_of}
 use Rattle.refusal.specs.declared.Refusal.{Refusal}
 use Rattle.refusal.specs.declared.Refusal.TheVariants.{BadState}
 use Rattle.state.specs.State.{Memory}
-use Rattle.state.specs.Reading.{Event, good_call, read_call}
+use Rattle.state.specs.Reading.{good_call, read_call}
 use Rattle.state.specs.Views.{event_is}
 use Rattle.state.specs.Slim.{said_is, slim_step}
 use Rattle.state.specs.steps.Inside.{done}
