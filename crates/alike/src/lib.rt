@@ -79,8 +79,8 @@ fn same_numbers<'a>(a: &'a [i32], b: &'a [i32], n: usize) -> bool
     all
 }
 
-fn same_inputs(a: &Entries, b: &Entries) -> bool
-    ensures { result ≡ same_inputs a.now b.now }
+fn same_inputs(a: Entries, b: Entries) -> bool
+    ensures { result ≡ same_inputs a b }
 {
     good::both(
         same_marks(&a.held, &b.held),
@@ -88,8 +88,8 @@ fn same_inputs(a: &Entries, b: &Entries) -> bool
     )
 }
 
-fn same_positions(a: &Entries, b: &Entries) -> bool
-    ensures { result ≡ same_positions a.now b.now }
+fn same_positions(a: Entries, b: Entries) -> bool
+    ensures { result ≡ same_positions a b }
 {
     good::both(
         same_numbers(&a.xs, &b.xs, 128),
@@ -102,7 +102,7 @@ pub fn same_entries(a: Entries, b: Entries) -> bool
 {
     good::both(
         same_marks(&a.marks, &b.marks),
-        good::both(same_positions(&a, &b), same_inputs(&a, &b)),
+        good::both(same_positions(a, b), same_inputs(a, b)),
     )
 }
 

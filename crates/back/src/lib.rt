@@ -22,14 +22,14 @@ pub enum BoardTick {
     NoTick,
 }
 
-#[derive(Drop)]
+#[derive(Clone, Copy)]
 pub struct Board {
     pub tick: BoardTick,
     pub entries: Entries,
 }
 
 // A board and its teams, two numbers for each client 0 to 127 as in a reader.
-#[derive(Drop)]
+#[derive(Clone, Copy)]
 pub struct TeamBoard {
     pub board: Board,
     pub teams: [i32; 256],
@@ -42,7 +42,7 @@ pub enum BackAnswer {
 }
 
 // The earlier board, or in a refusal the one that was given.
-#[derive(Drop)]
+#[derive(Clone, Copy)]
 pub struct SteppedBack {
     pub answer: BackAnswer,
     pub board: TeamBoard,

@@ -10,7 +10,7 @@ pub struct Player {
 }
 
 // A client's input entry.
-#[derive(Drop)]
+#[derive(Clone, Copy)]
 pub struct Held {
     pub mark: u8,
     pub ten: [i32; 10],

@@ -15,7 +15,7 @@ use packer::Part;
 use teams::Team;
 
 // A record, if there is one.
-#[derive(Drop)]
+#[derive(Clone, Copy)]
 pub struct Choice {
     pub there: bool,
     pub value: Record,

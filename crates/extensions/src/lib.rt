@@ -34,7 +34,7 @@ pub enum Extension {
 }
 
 // Whether an identifier is that of one of them.
-#[derive(Drop)]
+#[derive(Clone, Copy)]
 pub enum Found {
     Known(Extension),
     Unknown,

@@ -12,7 +12,7 @@ use refusal::Refusal;
 use varint::IntRead;
 
 // The arguments of a command: as many of the parts as count says; the others are empty.
-#[derive(Drop)]
+#[derive(Clone, Copy)]
 pub struct Args {
     pub count: usize,
     pub parts: [Part; 16],
@@ -27,7 +27,7 @@ pub enum ArgsAnswer {
 }
 
 // The arguments stand beside the answer; there are none in a refusal and where the bytes run out.
-#[derive(Drop)]
+#[derive(Clone, Copy)]
 pub struct ArgsRead {
     pub answer: ArgsAnswer,
     pub args: Args,
@@ -136,7 +136,7 @@ pub enum InputAnswer {
 }
 
 // The ten numbers stand beside the answer; they are zeros where the bytes run out.
-#[derive(Drop)]
+#[derive(Clone, Copy)]
 pub struct InputRead {
     pub answer: InputAnswer,
     pub input: [i32; 10],

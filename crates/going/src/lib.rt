@@ -28,7 +28,7 @@ pub struct Progress {
 }
 
 // The copy of the board, the rewind's own reel, and how far it has come.
-#[derive(Drop)]
+#[derive(Clone, Copy)]
 pub struct Rewind {
     pub board: TeamBoard,
     pub reel: Reel,
@@ -42,14 +42,14 @@ pub enum StartAnswer {
 }
 
 // In a refusal there is no rewind, and what stands for it is blank.
-#[derive(Drop)]
+#[derive(Clone, Copy)]
 pub struct Start {
     pub answer: StartAnswer,
     pub rewind: Rewind,
 }
 
 // The same where the own reel's arrays are lent.
-#[derive(Drop)]
+#[derive(Clone, Copy)]
 pub struct LentStart {
     pub answer: StartAnswer,
     pub board: TeamBoard,
@@ -63,7 +63,7 @@ pub enum GoAnswer {
     Refused(Refusal),
 }
 
-#[derive(Drop)]
+#[derive(Clone, Copy)]
 pub struct Go {
     pub answer: GoAnswer,
     pub rewind: Rewind,

@@ -107,7 +107,7 @@ pub fn start(reader: TeamReader, given: Reel, tick: i32, old: Rewind) -> Start {
 
 // What the last of some calls answers and leaves, and how many they were: each goes so many events, until the rewind isn't going any more, or until
 // they are as many as may be made.
-#[derive(Drop)]
+#[derive(Clone, Copy)]
 pub struct Walked {
     pub go: Go,
     pub calls: usize,

@@ -107,7 +107,7 @@ fn step_at(case: &[u8], k: usize) -> Step
 // ---- reading
 
 // Reader and reel, and what is at hand of the body.
-#[derive(Drop)]
+#[derive(Clone, Copy)]
 struct Scene {
     reader: TeamReader,
     reel: Reel,

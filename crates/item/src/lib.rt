@@ -148,7 +148,7 @@ pub enum Item {
 }
 
 // A record with what stands beside it: zeros and no arguments where it has none.
-#[derive(Drop)]
+#[derive(Clone, Copy)]
 pub struct Record {
     pub item: Item,
     pub input: [i32; 10],

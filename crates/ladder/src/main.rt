@@ -16,7 +16,7 @@ use state::Reader;
 use varint::Wrote;
 
 // What a turn leaves to the next: what follows it, and whether there is a next.
-#[derive(Drop)]
+#[derive(Clone, Copy)]
 struct Left {
     list: Results,
     reader: Reader,

@@ -44,7 +44,7 @@ impl After {
 }
 
 // What a turn leaves.
-#[derive(Drop)]
+#[derive(Clone, Copy)]
 pub struct ListTurn {
     pub list: Results,
     pub reader: Reader,

@@ -33,7 +33,7 @@ fn come(hand: Hand, wants: bool, len: usize) -> Hand {
 }
 
 // What a turn leaves, what follows it, and whether it was the last.
-#[derive(Drop)]
+#[derive(Clone, Copy)]
 struct Left {
     list: Results,
     reader: Reader,

@@ -52,7 +52,7 @@ fn report(name: &[u8], same: bool) {
 }
 
 // What a call on lent memory says, and what it leaves.
-#[derive(Drop)]
+#[derive(Clone, Copy)]
 struct LentRead {
     answer: Answer,
     reader: Reader,
@@ -184,7 +184,7 @@ fn reader_case(case: &[u8]) {
 // ---- bodies
 
 // A reader and its place in the body; or that it is read.
-#[derive(Drop)]
+#[derive(Clone, Copy)]
 struct Spot {
     reader: Reader,
     at: usize,

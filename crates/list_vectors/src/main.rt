@@ -69,7 +69,7 @@ fn print_end(number: u64) {
 // ---- the same event by event
 
 // A reader at its place in the body, and the list of what it read; or that it has ended.
-#[derive(Drop)]
+#[derive(Clone, Copy)]
 struct Spot {
     reader: Reader,
     at: usize,

@@ -22,7 +22,7 @@ pub enum End {
 }
 
 // Why the calls stopped, whether one gave an event, the bytes used in all, the list and the reader left.
-#[derive(Drop)]
+#[derive(Clone, Copy)]
 pub struct ListRead {
     pub end: End,
     pub gave: bool,

@@ -53,7 +53,7 @@ fn print_inp(cid: i32, found: InputOf) {
 }
 
 // What a client has beside its team.
-#[derive(Drop)]
+#[derive(Clone, Copy)]
 struct Found {
     pos: Pos,
     input: InputOf,
@@ -153,7 +153,7 @@ fn print_board(reader: TeamReader, on_board: bool) {
 }
 
 // A reader, its place in the body, and whether the body is read.
-#[derive(Drop)]
+#[derive(Clone, Copy)]
 struct Spot {
     reader: TeamReader,
     at: usize,

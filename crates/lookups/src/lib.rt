@@ -16,7 +16,7 @@ pub enum Pos {
 }
 
 // Ten numbers, if there are any.
-#[derive(Drop)]
+#[derive(Clone, Copy)]
 pub struct InputOf {
     pub there: bool,
     pub input: [i32; 10],

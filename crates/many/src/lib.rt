@@ -23,7 +23,7 @@ pub enum Stop {
 }
 
 // How many events there are, the bytes used in all, and the reader left.
-#[derive(Drop)]
+#[derive(Clone, Copy)]
 pub struct ManyAnswer {
     pub stop: Stop,
     pub count: usize,

@@ -19,7 +19,7 @@ pub enum WantedAnswer {
 }
 
 // An empty reader wanted in a version; beside a refusal stands the one of version 1.
-#[derive(Drop)]
+#[derive(Clone, Copy)]
 pub struct WantedReader {
     pub answer: WantedAnswer,
     pub reader: Reader,

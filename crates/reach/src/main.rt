@@ -24,7 +24,7 @@ enum File {
 }
 
 // What the first turn on a file begins with, and whether there is one.
-#[derive(Drop)]
+#[derive(Clone, Copy)]
 struct First {
     reader: TeamReader,
     hand: Hand,
@@ -40,7 +40,7 @@ struct Fed {
 
 // What the turns on a file leave: why the last one's calls stopped, whether that ended the reading, whether a read failed, and how many bytes are at
 // hand.
-#[derive(Drop)]
+#[derive(Clone, Copy)]
 struct Left {
     reader: TeamReader,
     stop: Stop,
@@ -50,7 +50,7 @@ struct Left {
 }
 
 // The reader after a file, and whether all of the file was read.
-#[derive(Drop)]
+#[derive(Clone, Copy)]
 struct Body {
     reader: TeamReader,
     whole: bool,

@@ -11,7 +11,7 @@ const FULL: usize = 65536;
 
 // What a turn leaves: the reader and the bytes used; why its calls stopped; whether that ends the reading, and whether nothing can follow before
 // more bytes are at hand.
-#[derive(Drop)]
+#[derive(Clone, Copy)]
 pub struct Turned {
     pub reader: TeamReader,
     pub used: usize,

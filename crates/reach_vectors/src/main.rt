@@ -63,7 +63,7 @@ fn wide(s: &[u8]) -> u32 {
 
 // A reader, its place in a body and the end of the bytes at hand, the events that may still come, and whether reading is over; by finish or a
 // refusal, if it is closed.
-#[derive(Drop)]
+#[derive(Clone, Copy)]
 struct Spot {
     reader: TeamReader,
     at: usize,
@@ -252,7 +252,7 @@ fn change_all(board: TeamBoard, changes: &[u8]) -> TeamBoard {
 // ---- the call
 
 // A target after the call, and what this said.
-#[derive(Drop)]
+#[derive(Clone, Copy)]
 struct Target {
     bytes: [u8; 16640],
     wrote: Wrote,

@@ -15,7 +15,7 @@ use state::{Answer, Entries, Reader, Scalars};
 
 // What a reading call hands back. The ten numbers and the former ten belong to an Input event, the arguments to a command; they are
 // zeros and none elsewhere.
-#[derive(Drop)]
+#[derive(Clone, Copy)]
 pub struct ReadAnswer {
     pub answer: Answer,
     pub reader: Reader,
@@ -25,7 +25,7 @@ pub struct ReadAnswer {
 }
 
 // What a call on lent entries says, the scalars that it leaves, and what stands beside an event.
-#[derive(Drop)]
+#[derive(Clone, Copy)]
 struct Heard {
     answer: Answer,
     scalars: Scalars,
@@ -119,11 +119,11 @@ pub fn read(reader: Reader, window: &[u8], last: bool) -> ReadAnswer
     let mut ys = entries.ys;
     let mut held = entries.held;
     if !good_reader::good_state(scalars, &marks, &xs, &ys, &held, &entries.inputs) {
-        return refused(Reader { scalars, entries }, Refusal::BadState);
+        return refused(reader, Refusal::BadState);
     }
     let standing = scalars.standing;
     if standing.is_closed() {
-        return refused(Reader { scalars, entries }, Refusal::Closed);
+        return refused(reader, Refusal::Closed);
     }
     let told = open_told(
         scalars,

@@ -19,7 +19,7 @@ pub enum CallAnswer {
 }
 
 // The record stands beside the answer; it is a blank one where there is none.
-#[derive(Drop)]
+#[derive(Clone, Copy)]
 pub struct RecordCall {
     pub answer: CallAnswer,
     pub value: Record,

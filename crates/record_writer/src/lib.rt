@@ -25,7 +25,7 @@ use shapes::Fields;
 use varint::Wrote;
 
 // The bytes of room that are left, that there are too few, or that something can't be written.
-#[derive(Drop)]
+#[derive(Clone, Copy)]
 pub enum Left {
     Room(usize),
     Short,

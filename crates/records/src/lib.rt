@@ -153,7 +153,7 @@ pub enum RecordAnswer {
 }
 
 // The record stands beside the answer; it is a blank one (Finish, zeros, no arguments) where there is none.
-#[derive(Drop)]
+#[derive(Clone, Copy)]
 pub struct RecordRead {
     pub answer: RecordAnswer,
     pub value: Record,

@@ -16,7 +16,7 @@ pub struct Counts {
 }
 
 // Ten numbers for each of 512 places: those of a row; the ten numbers of an input, and the former ten.
-#[derive(Drop)]
+#[derive(Clone, Copy)]
 pub struct Reel {
     pub counts: Counts,
     pub rows: [i32; 5120],
@@ -31,7 +31,7 @@ pub enum KeepAnswer {
 }
 
 // In a refusal the reel is the one that was given.
-#[derive(Drop)]
+#[derive(Clone, Copy)]
 pub struct KeptReel {
     pub answer: KeepAnswer,
     pub reel: Reel,

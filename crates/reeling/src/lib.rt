@@ -17,7 +17,7 @@ use state::{Answer, Entries, Reader, Scalars};
 use teams::TeamReader;
 
 // Why the calls stopped, how many events there are, the bytes used in all, the reader and the reel's counts left.
-#[derive(Drop)]
+#[derive(Clone, Copy)]
 pub struct ReelRead {
     pub stop: Stop,
     pub count: usize,

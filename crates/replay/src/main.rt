@@ -15,7 +15,7 @@ use teams::TeamReader;
 use varint::Wrote;
 
 // What a turn leaves to the next: whether there is a next, and whether it wants more bytes.
-#[derive(Drop)]
+#[derive(Clone, Copy)]
 struct Left {
     reader: TeamReader,
     hand: Hand,

@@ -26,7 +26,7 @@ fn come(hand: Hand, wants: bool, len: usize) -> Hand {
 }
 
 // What a turn leaves, and whether it was the last.
-#[derive(Drop)]
+#[derive(Clone, Copy)]
 struct Left {
     reader: TeamReader,
     hand: Hand,

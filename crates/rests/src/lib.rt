@@ -122,7 +122,7 @@ fn finished(s: Scalars, used: usize) -> Outcome
 }
 
 // Whether a kind is that of an input, and of which.
-#[derive(Drop)]
+#[derive(Clone, Copy)]
 enum InputOf {
     Input { new: bool },
     NoInput,

@@ -15,7 +15,7 @@ use refusal::Refusal;
 use state::Event;
 
 // A mark 1 for each client that has a row, its time and its tick; the number of the finishes of other clients.
-#[derive(Drop)]
+#[derive(Clone, Copy)]
 pub struct Results {
     pub marks: [u8; 128],
     pub times: [i32; 128],

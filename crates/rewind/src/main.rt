@@ -31,7 +31,7 @@ struct Wanted {
 }
 
 // What the first turn begins with, and whether there is one.
-#[derive(Drop)]
+#[derive(Clone, Copy)]
 struct First {
     reader: TeamReader,
     hand: Hand,

@@ -194,7 +194,7 @@ fn put_numbers(
 }
 
 // The number of a start's answer, the copy, and how many rows are newer than the TickStart; in a refusal a blank board and 0.
-#[derive(Drop)]
+#[derive(Clone, Copy)]
 struct Begun {
     number: u8,
     board: TeamBoard,

@@ -15,7 +15,7 @@ const FULL: usize = 65536;
 
 // What a turn leaves: the reader, the reel's counts, the bytes used, the number of events; whether nothing follows, and whether nothing can
 // follow before more bytes are at hand or the input has ended.
-#[derive(Drop)]
+#[derive(Clone, Copy)]
 pub struct ReelTurn {
     pub reader: TeamReader,
     pub counts: Counts,

@@ -64,7 +64,7 @@ fn come(hand: Hand, wants: bool, len: usize) -> Hand {
 // ---- a body
 
 // Reader and reel after a body, and how many events were read.
-#[derive(Drop)]
+#[derive(Clone, Copy)]
 struct Read {
     reader: TeamReader,
     reel: Reel,

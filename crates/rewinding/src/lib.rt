@@ -24,14 +24,14 @@ pub enum RewindAnswer {
 }
 
 // The copy, just after TickStart; in a refusal there is none, and the board is blank.
-#[derive(Drop)]
+#[derive(Clone, Copy)]
 pub struct Rewound {
     pub answer: RewindAnswer,
     pub board: TeamBoard,
 }
 
 // How many rows are newer than the TickStart, or that it is not there.
-#[derive(Drop)]
+#[derive(Clone, Copy)]
 enum Found {
     Newer(usize),
     Gone,

@@ -17,7 +17,7 @@ pub enum Pending {
 }
 
 // The entries of clients 0 to 127: marks are 0 or 1, and an entry whose mark is 0 holds zeros; ten input numbers each.
-#[derive(Drop)]
+#[derive(Clone, Copy)]
 pub struct Entries {
     pub marks: [u8; 128],
     pub xs: [i32; 128],
@@ -57,7 +57,7 @@ pub struct Scalars {
     pub standing: Standing,
 }
 
-#[derive(Drop)]
+#[derive(Clone, Copy)]
 pub struct Reader {
     pub scalars: Scalars,
     pub entries: Entries,

@@ -73,13 +73,7 @@ pub fn take_back(board: TeamBoard, undo: Undo, input: [i32; 10], former: [i32; 1
     let mut held = entries.held;
     let good = good::good_lent(&marks, &xs, &ys, &held, &entries.inputs);
     if !good::both(good::both(good_tick(tick), good), teams::good_teams(&teams)) {
-        return refuse(
-            TeamBoard {
-                board: Board { tick, entries },
-                teams,
-            },
-            Refusal::BadState,
-        );
+        return refuse(board, Refusal::BadState);
     }
     let off = taking::take_off_team(
         tick,

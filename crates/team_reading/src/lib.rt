@@ -14,7 +14,7 @@ use state::{Answer, Outcome, Scalars};
 use teams::{Team, TeamReader};
 
 // What a reading call with teams hands back. The former team belongs to a PlayerTeam record; it is none elsewhere.
-#[derive(Drop)]
+#[derive(Clone, Copy)]
 pub struct TeamRead {
     pub read: ReadAnswer,
     pub teams: [i32; 256],

@@ -20,7 +20,7 @@ pub enum Team {
 }
 
 // A reader and its teams: two numbers for each client 0 to 127, its mark, 0 or 1, and its team; without a team both are 0.
-#[derive(Drop)]
+#[derive(Clone, Copy)]
 pub struct TeamReader {
     pub reader: Reader,
     pub teams: [i32; 256],

@@ -12,7 +12,7 @@ use state::{Answer, Event};
 use varint::Wrote;
 
 // Bytes, of which the first so many count.
-#[derive(Drop)]
+#[derive(Clone, Copy)]
 pub struct Text {
     pub bytes: [u8; 138],
     pub len: usize,

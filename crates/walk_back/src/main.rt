@@ -24,7 +24,7 @@ fn print(text: Text) {
 }
 
 // A reader, its place in the body, how many events it has read, and whether no other follows.
-#[derive(Drop)]
+#[derive(Clone, Copy)]
 struct Spot {
     reader: TeamReader,
     at: usize,

@@ -41,7 +41,7 @@ fn print_refused(number: u8) {
 // ---- writing
 
 // A target after the writer, and what this said.
-#[derive(Drop)]
+#[derive(Clone, Copy)]
 struct Target {
     bytes: [u8; 512],
     wrote: Wrote,
