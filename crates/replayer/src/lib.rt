@@ -18,7 +18,7 @@ const LONGEST: usize = 138;
 
 // What a turn leaves: the reader, the bytes used, the bytes of text, whether the text ends with the last line, and whether nothing can follow
 // before more bytes are at hand or the input has ended.
-#[derive(Clone, Copy)]
+#[derive(Drop)]
 pub struct Turned {
     pub reader: TeamReader,
     pub used: usize,
