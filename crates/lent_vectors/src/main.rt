@@ -52,12 +52,26 @@ fn report(name: &[u8], same: bool) {
 }
 
 // What a call on lent memory says, and what it leaves.
-#[derive(Clone, Copy)]
+#[derive(Drop)]
 struct LentRead {
     answer: Answer,
     reader: Reader,
     input: [i32; 10],
     former: [i32; 10],
+}
+
+// The same reader once more.
+fn again(reader: &Reader) -> Reader {
+    Reader {
+        scalars: reader.scalars,
+        entries: Entries {
+            marks: reader.entries.marks,
+            xs: reader.entries.xs,
+            ys: reader.entries.ys,
+            held: reader.entries.held,
+            inputs: reader.entries.inputs,
+        },
+    }
 }
 
 fn lent_call(reader: Reader, body: &[u8]) -> LentRead {
@@ -102,14 +116,14 @@ fn lent_call(reader: Reader, body: &[u8]) -> LentRead {
     }
 }
 
-fn tell(read: LentRead) {
+fn tell(read: &LentRead) {
     let answer = read.answer;
     let input = read.input;
     print_text(texts::told(answer, input));
 }
 
 // Whether the ten numbers and the former ten are as they were lent.
-fn tens_kept(read: LentRead) -> bool {
+fn tens_kept(read: &LentRead) -> bool {
     let input = read.input;
     let former = read.former;
     all_are(&input, 1) & all_are(&former, 2)
@@ -117,10 +131,10 @@ fn tens_kept(read: LentRead) -> bool {
 
 fn by_lent(reader: Reader) {
     let body = BODY;
-    let read = lent_call(reader, &body);
-    let left = read.reader;
-    report(b"lent", alike::same_reader(left, reader) & tens_kept(read));
-    tell(read);
+    let read = lent_call(again(&reader), &body);
+    let left = again(&read.reader);
+    report(b"lent", alike::same_reader(left, reader) & tens_kept(&read));
+    tell(&read);
 }
 
 fn print_stop(stop: Stop) {
@@ -151,7 +165,7 @@ fn by_many(name: &[u8], reader: Reader, rows: &mut [i32]) {
     let body = BODY;
     let mut tens = [4i32; 80];
     let given = TeamReader {
-        reader,
+        reader: again(&reader),
         teams: [0; 256],
     };
     let many = many::read_many(given, &body, true, rows, &mut tens);
@@ -171,8 +185,8 @@ fn without_room(reader: Reader) {
 }
 
 fn each_call(reader: Reader) {
-    by_lent(reader);
-    with_room(reader);
+    by_lent(again(&reader));
+    with_room(again(&reader));
     without_room(reader);
 }
 
@@ -184,7 +198,7 @@ fn reader_case(case: &[u8]) {
 // ---- bodies
 
 // A reader and its place in the body; or that it is read.
-#[derive(Clone, Copy)]
+#[derive(Drop)]
 struct Spot {
     reader: Reader,
     at: usize,
@@ -193,6 +207,7 @@ struct Spot {
 
 // Past a call.
 fn past(spot: Spot, read: LentRead, len: usize) -> Spot {
+    let at = spot.at;
     let mut next = spot;
     let answer = read.answer;
     let left = read.reader;
@@ -201,15 +216,17 @@ fn past(spot: Spot, read: LentRead, len: usize) -> Spot {
         next.over = true;
         return next;
     };
-    next.at = cases::past(spot.at, used, len);
+    next.at = cases::past(at, used, len);
     next
 }
 
 // A call with a window to the body's end, which is the last.
 fn one_call(spot: Spot, body: &[u8]) -> Spot {
-    let reader = spot.reader;
-    let read = lent_call(reader, cases::window(body, spot.at, body.len()));
-    tell(read);
+    let read = lent_call(
+        again(&spot.reader),
+        cases::window(body, spot.at, body.len()),
+    );
+    tell(&read);
     past(spot, read, body.len())
 }
 
