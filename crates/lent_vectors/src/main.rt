@@ -51,6 +51,19 @@ fn report(name: &[u8], same: bool) {
     print(b", memory changed: ");
 }
 
+// The same reader, for a call that takes it.
+fn copy_of(reader: &Reader) -> Reader {
+    let scalars = reader.scalars;
+    let entries = Entries {
+        marks: reader.entries.marks,
+        xs: reader.entries.xs,
+        ys: reader.entries.ys,
+        held: reader.entries.held,
+        inputs: reader.entries.inputs,
+    };
+    Reader { scalars, entries }
+}
+
 // What a call on lent memory says, and what it leaves.
 #[derive(Drop)]
 struct LentRead {
@@ -58,20 +71,6 @@ struct LentRead {
     reader: Reader,
     input: [i32; 10],
     former: [i32; 10],
-}
-
-// The same reader once more.
-fn again(reader: &Reader) -> Reader {
-    Reader {
-        scalars: reader.scalars,
-        entries: Entries {
-            marks: reader.entries.marks,
-            xs: reader.entries.xs,
-            ys: reader.entries.ys,
-            held: reader.entries.held,
-            inputs: reader.entries.inputs,
-        },
-    }
 }
 
 fn lent_call(reader: Reader, body: &[u8]) -> LentRead {
@@ -129,11 +128,11 @@ fn tens_kept(read: &LentRead) -> bool {
     all_are(&input, 1) & all_are(&former, 2)
 }
 
-fn by_lent(reader: Reader) {
+fn by_lent(reader: &Reader) {
     let body = BODY;
-    let read = lent_call(again(&reader), &body);
-    let left = again(&read.reader);
-    report(b"lent", alike::same_reader(left, reader) & tens_kept(&read));
+    let read = lent_call(copy_of(reader), &body);
+    let same = alike::same_reader(copy_of(&read.reader), copy_of(reader));
+    report(b"lent", same & tens_kept(&read));
     tell(&read);
 }
 
@@ -161,38 +160,44 @@ fn print_many(name: &[u8], many: ManyAnswer, reader: Reader, lent: bool) {
 }
 
 // A call of many events with these rows, which are 3 all over.
-fn by_many(name: &[u8], reader: Reader, rows: &mut [i32]) {
+fn by_many(name: &[u8], reader: &Reader, rows: &mut [i32]) {
     let body = BODY;
     let mut tens = [4i32; 80];
     let given = TeamReader {
-        reader: again(&reader),
+        reader: copy_of(reader),
         teams: [0; 256],
     };
     let many = many::read_many(given, &body, true, rows, &mut tens);
-    print_many(name, many, reader, all_are(rows, 3) & all_are(&tens, 4));
+    print_many(
+        name,
+        many,
+        copy_of(reader),
+        all_are(rows, 3) & all_are(&tens, 4),
+    );
 }
 
 // Room for four events.
-fn with_room(reader: Reader) {
+fn with_room(reader: &Reader) {
     let mut rows = [3i32; 32];
     by_many(b"many", reader, &mut rows);
 }
 
 // Room for no row.
-fn without_room(reader: Reader) {
+fn without_room(reader: &Reader) {
     let mut row = [3i32; 7];
     by_many(b"no room", reader, &mut row);
 }
 
-fn each_call(reader: Reader) {
-    by_lent(again(&reader));
-    with_room(again(&reader));
+fn each_call(reader: &Reader) {
+    by_lent(reader);
+    with_room(reader);
     without_room(reader);
 }
 
 fn reader_case(case: &[u8]) {
     print(cases::name(case));
-    each_call(alike::reader_in(cases::behind_name(case)));
+    let reader = alike::reader_in(cases::behind_name(case));
+    each_call(&reader);
 }
 
 // ---- bodies
@@ -207,7 +212,6 @@ struct Spot {
 
 // Past a call.
 fn past(spot: Spot, read: LentRead, len: usize) -> Spot {
-    let at = spot.at;
     let mut next = spot;
     let answer = read.answer;
     let left = read.reader;
@@ -216,14 +220,14 @@ fn past(spot: Spot, read: LentRead, len: usize) -> Spot {
         next.over = true;
         return next;
     };
-    next.at = cases::past(at, used, len);
+    next.at = cases::past(next.at, used, len);
     next
 }
 
 // A call with a window to the body's end, which is the last.
 fn one_call(spot: Spot, body: &[u8]) -> Spot {
     let read = lent_call(
-        again(&spot.reader),
+        copy_of(&spot.reader),
         cases::window(body, spot.at, body.len()),
     );
     tell(&read);
