@@ -12,7 +12,7 @@
 
 mod beside;
 
-use crate::beside::{hold_lent, hold_plain};
+use crate::beside::{again, hold_lent, hold_plain, plain_again};
 use item::Item;
 use kinds::{Cid, Version};
 use state::{Answer, Event, Reader, Scalars};
@@ -41,9 +41,8 @@ fn start(last: bool) -> usize {
 }
 
 // The reader that a call left.
-fn left(read: TeamRead) -> TeamReader {
-    let plain = read.read;
-    let reader = plain.reader;
+fn left(read: &TeamRead) -> TeamReader {
+    let reader = plain_again(&read.read.reader);
     let teams = read.teams;
     TeamReader { reader, teams }
 }
@@ -58,24 +57,21 @@ fn compare(reader: TeamReader, next: TeamReader) {
 fn read(reader: TeamReader, last: bool) {
     let new = NEW;
     let window = cases::window(&new, start(last), 4);
-    let got = team_reading::read(reader, window, last);
-    let plain = got.read;
-    let answer = plain.answer;
-    let input = plain.input;
-    hold_lent(reader, window, last, got);
+    let got = team_reading::read(again(&reader), window, last);
+    let answer = got.read.answer;
+    let input = got.read.input;
+    hold_lent(&reader, window, last, &got);
     if let Used::Bytes(_) = texts::used_in(answer) {
         say(b" event\n");
         return;
     }
     print(texts::told(answer, input));
-    compare(reader, left(got));
+    compare(reader, left(&got));
 }
 
 fn reader_case(s: &[u8]) {
     let reader = team_alike::team_reader_in(s);
-    let plain = reader.reader;
-    let scalars = plain.scalars;
-    let standing = scalars.standing;
+    let standing = reader.reader.scalars.standing;
     read(reader, standing.is_closed());
 }
 
@@ -108,10 +104,9 @@ fn say_elsewhere(former: Team) {
 }
 
 // What a call of a body prints: the last one its answer, another a PlayerTeam.
-fn tell(read: TeamRead) {
-    let plain = read.read;
-    let answer = plain.answer;
-    let input = plain.input;
+fn tell(read: &TeamRead) {
+    let answer = read.read.answer;
+    let input = read.read.input;
     let former = read.former;
     if let Answer::Event { event, used: _ } = answer {
         say_joining(event, former);
@@ -123,9 +118,9 @@ fn tell(read: TeamRead) {
 
 // The last call on a window.
 fn call(reader: TeamReader, window: &[u8]) -> TeamRead {
-    let got = team_reading::read(reader, window, true);
-    hold_lent(reader, window, true, got);
-    hold_plain(reader, window, got);
+    let got = team_reading::read(again(&reader), window, true);
+    hold_lent(&reader, window, true, &got);
+    hold_plain(&reader, window, &got);
     got
 }
 
@@ -135,10 +130,9 @@ fn ended(given: TeamReader, body: &[u8]) -> TeamReader {
     let mut at: usize = 0;
     for _ in 0..100usize {
         let got = call(reader, cases::window(body, at, body.len()));
-        let plain = got.read;
-        let answer = plain.answer;
-        tell(got);
-        reader = left(got);
+        let answer = got.read.answer;
+        tell(&got);
+        reader = left(&got);
         let Used::Bytes(used) = texts::used_in(answer) else {
             return reader;
         };
@@ -162,14 +156,14 @@ fn then(reader: TeamReader, last: bool) {
 
 fn body_case(s: &[u8]) {
     let reader = ended(empty(cases::byte(s, 0)), cases::window(s, 1, s.len()));
-    then(reader, false);
+    then(again(&reader), false);
     then(reader, true);
 }
 
 // The first body behind its length, then the other.
 fn two_bodies(reader: TeamReader, s: &[u8]) {
     let end = cases::past(1, cases::size(cases::byte(s, 0)), s.len());
-    let one = ended(reader, cases::window(s, 1, end));
+    let one = ended(again(&reader), cases::window(s, 1, end));
     say(b"  and cut");
     let other = ended(reader, cases::window(s, end, s.len()));
     if !team_alike::same_team_reader(one, other) {
