@@ -1,6 +1,6 @@
 -- `choosing::input_step` meets its contract. Assumes nothing.
 use mathlib.Core.Path.{sym, ◌∙◌}
-use borrow.Author.Rules.{rules, sfits_of}
+use borrow.Author.Rules.{sfits_of}
 use borrow.Author.Tests.{eq-eqb, ne_eqb}
 use Rattle.state.proofs.Numbers.{back}
 use Rattle.choosing.proofs.Places.{input_away, input_same, input_new_law}

@@ -1,5 +1,4 @@
 -- `choosing::none` meets its contract. Assumes nothing.
-use borrow.Author.Rules.{rules}
 use Rattle.choosing.proofs.Forms.{none_chosen}
 use Rattle.choosing.proofs.Places.{as_made}
 use Rattle.choosing.proofs.none.Goals as goal

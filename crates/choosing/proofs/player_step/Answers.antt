@@ -1,7 +1,7 @@
 -- `choosing::player_step` meets its contract. Assumes nothing.
 use mathlib.Core.Path.{◌≡◌, sym, ◌∙◌}
 use mathlib.Core.Bool.{false}
-use borrow.Author.Rules.{rules, sfits_of}
+use borrow.Author.Rules.{sfits_of}
 use borrow.Author.Tests.{eq-eqb, ne_eqb}
 use lib.IntN.{pos}
 use mir.Syntax.{w32}
@@ -35,8 +35,8 @@ returns-then-q-eq1 c =
     (eq-eqb a.q.mark 1 c.if-q-eq1.true)
     _ _ _
     (cid n)
-    (subtracted a.q.x a.p.x x.result c.struct_told-1.given.1.0.1 c.struct_told-then-q-eq1-1.given.1.0.1 x.ensures.1 x.ensures.0)
-    (subtracted a.q.y a.p.y y.result c.struct_told-1.given.1.1.0.1 c.struct_told-then-q-eq1-1.given.1.1.0.1 y.ensures.1 y.ensures.0)
+    (subtracted a.q.x a.p.x x.result c.struct_told-1.given.1.0.1 c.struct_told-then-q-eq1-1.given.1.0.1 x.ensures.fits_signed x.ensures.value)
+    (subtracted a.q.y a.p.y y.result c.struct_told-1.given.1.1.0.1 c.struct_told-then-q-eq1-1.given.1.1.0.1 y.ensures.fits_signed y.ensures.value)
     c.plain.ensures
 
 -- the client, and that the entries differ

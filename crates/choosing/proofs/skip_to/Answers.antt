@@ -1,7 +1,5 @@
 -- `choosing::skip_to` meets its contract. Assumes nothing.
-use native.Mathlib.Omega.{arith}
 use lib.Signed.{mag}
-use borrow.Author.Rules.{rules}
 use Rattle.state.proofs.Numbers.{back}
 use Rattle.choosing.proofs.Places.{skip_before, skip_back, skip_on, Later, later}
 use Rattle.choosing.proofs.skip_to.Goals as goal

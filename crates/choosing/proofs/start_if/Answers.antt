@@ -1,5 +1,4 @@
 -- `choosing::start_if` meets its contract. Assumes nothing.
-use borrow.Author.Rules.{rules}
 use Rattle.choosing.proofs.Places.{start_none, start_one}
 use Rattle.choosing.proofs.start_if.Goals as goal
 
