@@ -1,30 +1,8 @@
 // A call by value, held to the others on the same reader and window.
-use crate::{left, say};
+use crate::{left, plain_copy, say};
 use state::{Answer, Entries, Reader, Scalars};
 use team_reading::{TeamOutcome, TeamRead};
 use teams::{Team, TeamReader};
-
-// The same reader once more.
-pub fn plain_again(reader: &Reader) -> Reader {
-    Reader {
-        scalars: reader.scalars,
-        entries: Entries {
-            marks: reader.entries.marks,
-            xs: reader.entries.xs,
-            ys: reader.entries.ys,
-            held: reader.entries.held,
-            inputs: reader.entries.inputs,
-        },
-    }
-}
-
-// The same with its teams.
-pub fn again(reader: &TeamReader) -> TeamReader {
-    TeamReader {
-        reader: plain_again(&reader.reader),
-        teams: reader.teams,
-    }
-}
 
 // Which answer it is, and the bytes used or the number of the refusal.
 fn numbers_of(answer: Answer) -> [usize; 2] {
@@ -107,11 +85,11 @@ pub fn hold_lent(reader: &TeamReader, window: &[u8], last: bool, got: &TeamRead)
 
 // The last call on a window, of a reader with good teams.
 pub fn hold_plain(reader: &TeamReader, window: &[u8], got: &TeamRead) {
-    let read = reader::read(plain_again(&reader.reader), window, true);
+    let read = reader::read(plain_copy(&reader.reader), window, true);
     let first = read.answer;
     let one = read.reader;
     let second = got.read.answer;
-    let other = plain_again(&got.read.reader);
+    let other = plain_copy(&got.read.reader);
     if !(alike::same_reader(one, other) & same_answer(first, second)) {
         say(b"without teams it differs\n");
     }

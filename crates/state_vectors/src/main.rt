@@ -12,10 +12,10 @@
 
 mod beside;
 
-use crate::beside::{again, hold_lent, hold_plain, plain_again};
+use crate::beside::{hold_lent, hold_plain};
 use item::Item;
 use kinds::{Cid, Version};
-use state::{Answer, Event, Reader, Scalars};
+use state::{Answer, Entries, Event, Reader, Scalars};
 use team_reading::TeamRead;
 use teams::{Team, TeamReader};
 use texts::{Text, Used};
@@ -40,27 +40,48 @@ fn start(last: bool) -> usize {
     if last { 4 } else { 0 }
 }
 
-// The reader that a call left.
-fn left(read: &TeamRead) -> TeamReader {
-    let reader = plain_again(&read.read.reader);
-    let teams = read.teams;
-    TeamReader { reader, teams }
+// The same reader, for a call that takes it.
+fn plain_copy(reader: &Reader) -> Reader {
+    let scalars = reader.scalars;
+    let entries = Entries {
+        marks: reader.entries.marks,
+        xs: reader.entries.xs,
+        ys: reader.entries.ys,
+        held: reader.entries.held,
+        inputs: reader.entries.inputs,
+    };
+    Reader { scalars, entries }
 }
 
-fn compare(reader: TeamReader, next: TeamReader) {
-    if !team_alike::same_team_reader(reader, next) {
+fn copy_of(reader: &TeamReader) -> TeamReader {
+    TeamReader {
+        reader: plain_copy(&reader.reader),
+        teams: reader.teams,
+    }
+}
+
+// The reader that a call left.
+fn left(read: &TeamRead) -> TeamReader {
+    TeamReader {
+        reader: plain_copy(&read.read.reader),
+        teams: read.teams,
+    }
+}
+
+fn compare(reader: &TeamReader, next: TeamReader) {
+    if !team_alike::same_team_reader(copy_of(reader), next) {
         say(b"the reader is changed\n");
     }
 }
 
 // A reading call of a reader that may be bad or closed, on a PlayerNew or, as the last, on nothing: a refusal changes nothing.
-fn read(reader: TeamReader, last: bool) {
+fn read(reader: &TeamReader, last: bool) {
     let new = NEW;
     let window = cases::window(&new, start(last), 4);
-    let got = team_reading::read(again(&reader), window, last);
+    let got = team_reading::read(copy_of(reader), window, last);
     let answer = got.read.answer;
     let input = got.read.input;
-    hold_lent(&reader, window, last, &got);
+    hold_lent(reader, window, last, &got);
     if let Used::Bytes(_) = texts::used_in(answer) {
         say(b" event\n");
         return;
@@ -72,7 +93,7 @@ fn read(reader: TeamReader, last: bool) {
 fn reader_case(s: &[u8]) {
     let reader = team_alike::team_reader_in(s);
     let standing = reader.reader.scalars.standing;
-    read(reader, standing.is_closed());
+    read(&reader, standing.is_closed());
 }
 
 fn say_team(word: &[u8], team: Team, none: &[u8]) {
@@ -117,10 +138,10 @@ fn tell(read: &TeamRead) {
 }
 
 // The last call on a window.
-fn call(reader: TeamReader, window: &[u8]) -> TeamRead {
-    let got = team_reading::read(again(&reader), window, true);
-    hold_lent(&reader, window, true, &got);
-    hold_plain(&reader, window, &got);
+fn call(reader: &TeamReader, window: &[u8]) -> TeamRead {
+    let got = team_reading::read(copy_of(reader), window, true);
+    hold_lent(reader, window, true, &got);
+    hold_plain(reader, window, &got);
     got
 }
 
@@ -129,7 +150,7 @@ fn ended(given: TeamReader, body: &[u8]) -> TeamReader {
     let mut reader = given;
     let mut at: usize = 0;
     for _ in 0..100usize {
-        let got = call(reader, cases::window(body, at, body.len()));
+        let got = call(&reader, cases::window(body, at, body.len()));
         let answer = got.read.answer;
         tell(&got);
         reader = left(&got);
@@ -149,21 +170,21 @@ fn empty(b: u8) -> TeamReader {
     TeamReader::empty(version_of(b))
 }
 
-fn then(reader: TeamReader, last: bool) {
+fn then(reader: &TeamReader, last: bool) {
     say(b"  and then");
     read(reader, last);
 }
 
 fn body_case(s: &[u8]) {
     let reader = ended(empty(cases::byte(s, 0)), cases::window(s, 1, s.len()));
-    then(again(&reader), false);
-    then(reader, true);
+    then(&reader, false);
+    then(&reader, true);
 }
 
 // The first body behind its length, then the other.
 fn two_bodies(reader: TeamReader, s: &[u8]) {
     let end = cases::past(1, cases::size(cases::byte(s, 0)), s.len());
-    let one = ended(again(&reader), cases::window(s, 1, end));
+    let one = ended(copy_of(&reader), cases::window(s, 1, end));
     say(b"  and cut");
     let other = ended(reader, cases::window(s, end, s.len()));
     if !team_alike::same_team_reader(one, other) {
