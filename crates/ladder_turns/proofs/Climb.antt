@@ -6,7 +6,6 @@ use mathlib.Core.List.{List, [], ◌∷◌, ◌++◌}
 use native.Mathlib.Omega.{arith}
 use borrow.Author.Tests.{leb-true, le-leb}
 use lib.IntN.{ℤ}
-use Rattle.state.specs.Reading.{Event}
 use Rattle.calls.specs.Calls.{Seen}
 use Rattle.windows.specs.Telling.{Heard, an_event, the_end, events_told}
 use Rattle.results.specs.Results.{finish_of, tick_after, ticks_after, finishes_in, keep, fits}

@@ -1,5 +1,5 @@
 -- Rounds make the list of a body, in whatever pieces it came. Assumes nothing.
-use Prim.Native.Nat.{ℕ, zero, suc, ◌+◌, ◌*◌, ◌≤◌}
+use Prim.Native.Nat.{ℕ, zero, suc, ◌+◌, ◌*◌}
 use mathlib.Core.Path.{◌≡◌, refl, sym, ap, subst, ◌∙◌}
 use mathlib.Core.Bool.{Bool, true, false, cond}
 use mathlib.Core.List.{List, [], ◌∷◌, ◌++◌, append_assoc}
@@ -19,8 +19,8 @@ use Rattle.windows.proofs.Telling.{events_told_law, run_told, not_full}
 use Rattle.results.specs.Results.{ticks_after, finishes_in, no_results, keep, fits}
 use Rattle.results.specs.declared.Results.{Results}
 use Rattle.results.proofs.Ticks.{Open, open_now}
-use Rattle.listing.specs.Listing.{whole_run, events_of, finishes_of, some_seen, list_run}
-use Rattle.ladder_turns.specs.Ladder.{next_of, ends_as, Turned, turn_on, window_run, end_of, ladder_list, ladder_last}
+use Rattle.listing.specs.Listing.{whole_run, events_of, finishes_of, some_seen}
+use Rattle.ladder_turns.specs.Ladder.{next_of, ends_as, Turned, window_run, end_of, ladder_list, ladder_last}
 use Rattle.ladder_turns.specs.Rounds.{Climbed, on_next, list_rounds, RoundsList}
 use Rattle.ladder_turns.proofs.Ticks.{GoesOn, run_follows}
 use Rattle.ladder_turns.proofs.Climb.{climb, fits_before, climb_run}

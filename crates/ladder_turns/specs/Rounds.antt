@@ -4,7 +4,6 @@ use Rattle.kinds.specs.declared.Version.{Version}
 use Rattle.state.specs.State.{empty_reader}
 use Rattle.state.specs.declared.Reader.{Reader}
 use Rattle.calls.specs.Along.{enough}
-use Rattle.windows.specs.Windows.{Last}
 use Rattle.windows.specs.Rounds.{Input, input_after, all_pieces}
 use Rattle.results.specs.Results.{no_results, fits}
 use Rattle.results.specs.declared.Results.{Results}
