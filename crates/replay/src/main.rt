@@ -6,13 +6,17 @@ ghost use Rattle.std.specs.Prelude.{◌≡◌, ◌<◌, length};
 
 use feed::Hand;
 use kinds::{Version, VersionOf};
-use libc::{STDERR_FILENO, STDIN_FILENO, STDOUT_FILENO};
 use lines::Ending;
 use packer::Part;
 use refusal::Refusal;
 use replayer::Turned;
+use std::io::Read;
 use teams::TeamReader;
 use varint::Wrote;
+
+const STDOUT_FILENO: i32 = 1;
+
+const STDERR_FILENO: i32 = 2;
 
 // What a turn leaves to the next: whether there is a next, and whether it wants more bytes.
 #[derive(Clone, Copy)]
@@ -53,14 +57,12 @@ fn goes_on(text: &[u8], filled: usize, ended: bool) -> bool {
 }
 
 // One read, behind the bytes at hand.
-fn read_on(buf: &mut [u8], hand: Hand) -> Fed {
+fn read_on(input: &mut impl Read, buf: &mut [u8], hand: Hand) -> Fed {
     let n = feed::keep(buf, hand);
-    let got = libc::read(STDIN_FILENO, &mut buf[n..]);
-    if got < 0 {
+    let Ok(more) = input.read(&mut buf[n..]) else {
         say(b"replay: a read failed\n");
         return Fed { hand, failed: true };
-    }
-    let more = io::count(got, &buf[n..]);
+    };
     Fed {
         hand: feed::grow(buf.len(), n, more),
         failed: false,
@@ -82,14 +84,15 @@ fn one_turn(left: Left, buf: &[u8], rows: &mut [i32], tens: &mut [i32], out: &mu
     let reader = left.reader;
     let hand = left.hand;
     let turned = replayer::turn(reader, feed::window(buf, hand), hand.ended, rows, tens, out);
-    left_after(turned, hand, goes_on(out, turned.filled, turned.ended))
+    let goes = goes_on(out, turned.filled, turned.ended);
+    left_after(turned, hand, goes)
 }
 
 // A read, where more bytes are wanted.
-fn with_read(left: Left, buf: &mut [u8]) -> Left {
+fn with_read(left: Left, input: &mut impl Read, buf: &mut [u8]) -> Left {
     let mut next = left;
-    if good::both(left.goes, left.wants) {
-        let fed = read_on(buf, left.hand);
+    if good::both(next.goes, next.wants) {
+        let fed = read_on(input, buf, next.hand);
         let hand = fed.hand;
         next.hand = hand;
         next.goes = !fed.failed;
@@ -99,8 +102,15 @@ fn with_read(left: Left, buf: &mut [u8]) -> Left {
 }
 
 // A turn, and a read where it wants more bytes.
-fn round(left: Left, buf: &mut [u8], rows: &mut [i32], tens: &mut [i32], out: &mut [u8]) -> Left {
-    with_read(one_turn(left, buf, rows, tens, out), buf)
+fn round(
+    left: Left,
+    input: &mut impl Read,
+    buf: &mut [u8],
+    rows: &mut [i32],
+    tens: &mut [i32],
+    out: &mut [u8],
+) -> Left {
+    with_read(one_turn(left, buf, rows, tens, out), input, buf)
 }
 
 // The turns that may follow: fewer than there were, and none where none follows.
@@ -115,11 +125,18 @@ fn fewer(turns: u64, goes: bool) -> u64
 }
 
 // Turns until one is the last. Each gives an event, the last line or a read; their number is there to bound them.
-fn replay(first: Left, buf: &mut [u8], rows: &mut [i32], tens: &mut [i32], out: &mut [u8]) {
+fn replay(
+    first: Left,
+    input: &mut impl Read,
+    buf: &mut [u8],
+    rows: &mut [i32],
+    tens: &mut [i32],
+    out: &mut [u8],
+) {
     let mut left = first;
-    let mut turns: u64 = fewer(18446744073709551615, first.goes);
+    let mut turns: u64 = fewer(18446744073709551615, left.goes);
     while 0 < turns {
-        left = round(left, buf, rows, tens, out);
+        left = round(left, input, buf, rows, tens, out);
         turns = fewer(turns, left.goes);
     }
 }
@@ -178,8 +195,8 @@ fn begun(fed: Fed, buf: &[u8]) -> Left {
     behind_version(number(buf[0]), hand)
 }
 
-fn begin(buf: &mut [u8]) -> Left {
-    let fed = read_on(buf, Hand::empty());
+fn begin(input: &mut impl Read, buf: &mut [u8]) -> Left {
+    let fed = read_on(input, buf, Hand::empty());
     begun(fed, buf)
 }
 
@@ -208,11 +225,12 @@ fn text_space() -> [u8; 565524]
     [0; 565524]
 }
 
-fn main() {
+fn main(rt: HostRuntime) {
+    let mut input = rt.stdin();
     let mut buf = buffer();
     let mut rows = row_space();
     let mut tens = ten_space();
     let mut out = text_space();
-    let first = begin(&mut buf);
-    replay(first, &mut buf, &mut rows, &mut tens, &mut out);
+    let first = begin(&mut input, &mut buf);
+    replay(first, &mut input, &mut buf, &mut rows, &mut tens, &mut out);
 }
