@@ -7,13 +7,17 @@ ghost use Rattle.std.specs.Prelude.{◌≡◌, ◌<◌, length};
 use feed::Hand;
 use kinds::{Version, VersionOf};
 use ladder_turns::After;
-use libc::{STDERR_FILENO, STDIN_FILENO, STDOUT_FILENO};
 use lines::Ending;
 use packer::Part;
 use refusal::Refusal;
 use results::Results;
 use state::Reader;
+use std::io::Read;
 use varint::Wrote;
+
+const STDOUT_FILENO: i32 = 1;
+
+const STDERR_FILENO: i32 = 2;
 
 // What a turn leaves to the next: what follows it, and whether there is a next.
 #[derive(Clone, Copy)]
@@ -46,14 +50,12 @@ fn print(text: &[u8], n: usize) {
 }
 
 // One read, behind the bytes at hand.
-fn read_on(buf: &mut [u8], hand: Hand) -> Fed {
+fn read_on(input: &mut impl Read, buf: &mut [u8], hand: Hand) -> Fed {
     let n = feed::keep(buf, hand);
-    let got = libc::read(STDIN_FILENO, &mut buf[n..]);
-    if got < 0 {
+    let Ok(more) = input.read(&mut buf[n..]) else {
         say(b"ladder: a read failed\n");
         return Fed { hand, failed: true };
-    }
-    let more = io::count(got, &buf[n..]);
+    };
     Fed {
         hand: feed::grow(buf.len(), n, more),
         failed: false,
@@ -61,9 +63,9 @@ fn read_on(buf: &mut [u8], hand: Hand) -> Fed {
 }
 
 // A read, where a turn wants more bytes.
-fn fed_on(after: After, buf: &mut [u8], hand: Hand) -> Fed {
+fn fed_on(after: After, input: &mut impl Read, buf: &mut [u8], hand: Hand) -> Fed {
     if after.wants() {
-        return read_on(buf, hand);
+        return read_on(input, buf, hand);
     }
     Fed {
         hand,
@@ -91,7 +93,7 @@ fn fewer(turns: u64, goes: bool) -> u64
 
 // Turns until one is the last. Each gives an event, the end or a read; their number is there to bound them. List and reader stay in this
 // function: handed on in a struct, they would be copied at each step.
-fn climb(first: Left, buf: &mut [u8]) -> Left {
+fn climb(first: Left, input: &mut impl Read, buf: &mut [u8]) -> Left {
     let mut list = first.list;
     let mut reader = first.reader;
     let mut hand = first.hand;
@@ -102,7 +104,7 @@ fn climb(first: Left, buf: &mut [u8]) -> Left {
         let next_list = turned.list;
         let next_reader = turned.reader;
         let next_after = turned.after;
-        let fed = fed_on(next_after, buf, feed::pass(hand, turned.used));
+        let fed = fed_on(next_after, input, buf, feed::pass(hand, turned.used));
         let next_hand = fed.hand;
         list = next_list;
         reader = next_reader;
@@ -185,8 +187,8 @@ fn begun(fed: Fed, buf: &[u8]) -> Left {
     behind_version(number(buf[0]), hand)
 }
 
-fn begin(buf: &mut [u8]) -> Left {
-    let fed = read_on(buf, Hand::empty());
+fn begin(input: &mut impl Read, buf: &mut [u8]) -> Left {
+    let fed = read_on(input, buf, Hand::empty());
     begun(fed, buf)
 }
 
@@ -197,8 +199,9 @@ fn buffer() -> [u8; 131072]
     [0; 131072]
 }
 
-fn main() {
+fn main(rt: HostRuntime) {
+    let mut input = rt.stdin();
     let mut buf = buffer();
-    let first = begin(&mut buf);
-    finish(climb(first, &mut buf));
+    let first = begin(&mut input, &mut buf);
+    finish(climb(first, &mut input, &mut buf));
 }
