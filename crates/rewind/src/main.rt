@@ -9,7 +9,6 @@ use back::{Board, TeamBoard};
 use feed::Hand;
 use going::{GoAnswer, LentGo, LentStart, StartAnswer};
 use kinds::{Version, VersionOf};
-use libc::{STDERR_FILENO, STDIN_FILENO, STDOUT_FILENO};
 use lines::Ending;
 use number_args::Argument;
 use packer::Part;
@@ -17,8 +16,14 @@ use reel::Counts;
 use refusal::Refusal;
 use rewinding::Rewound;
 use state::Entries;
+use std::env::{Env, FillError};
+use std::io::Read;
 use teams::TeamReader;
 use varint::Wrote;
+
+const STDOUT_FILENO: i32 = 1;
+
+const STDERR_FILENO: i32 = 2;
 
 // What the arguments say: whether they are good, the tick, how many events the rewind goes a call (0: all at once), and how many are read at
 // most.
@@ -59,12 +64,25 @@ fn print(text: &[u8], n: usize) -> bool {
     false
 }
 
-fn argument(i: usize) -> Argument {
+// How many arguments there are, the program's name among them; 5 stands for more.
+fn argument_count(rt: &impl Env) -> usize {
     let mut text = [0u8; 64];
-    let n = os::arg(i, &mut text);
-    if os::errno() != 0 {
-        return Argument::Bad;
+    let mut count: usize = 0;
+    while count < 5 {
+        if let Err(FillError::NotPresent) = rt.arg(count, &mut text) {
+            return count;
+        }
+        count += 1;
     }
+    count
+}
+
+// One that is missing, or longer than a number needs to be, is bad.
+fn argument(rt: &impl Env, i: usize) -> Argument {
+    let mut text = [0u8; 64];
+    let Ok(n) = rt.arg(i, &mut text) else {
+        return Argument::Bad;
+    };
     number_args::number_in(packer::show(&text, Part { at: 0, len: n }))
 }
 
@@ -78,7 +96,7 @@ fn bad() -> Wanted {
 }
 
 // The most events, of an argument that may be missing.
-fn with_events(tick: i32, step: usize, count: usize) -> Wanted {
+fn with_events(rt: &impl Env, tick: i32, step: usize, count: usize) -> Wanted {
     if count < 4 {
         return Wanted {
             good: true,
@@ -87,7 +105,7 @@ fn with_events(tick: i32, step: usize, count: usize) -> Wanted {
             most: 18446744073709551615,
         };
     }
-    match argument(3) {
+    match argument(rt, 3) {
         Argument::Number(n) => Wanted {
             good: true,
             tick,
@@ -99,36 +117,34 @@ fn with_events(tick: i32, step: usize, count: usize) -> Wanted {
 }
 
 // The step, of an argument that may be missing.
-fn with_step(tick: i32, count: usize) -> Wanted {
+fn with_step(rt: &impl Env, tick: i32, count: usize) -> Wanted {
     if count < 3 {
-        return with_events(tick, 0, count);
+        return with_events(rt, tick, 0, count);
     }
-    match argument(2) {
-        Argument::Number(n) => with_events(tick, num::bits(n) as usize, count),
+    match argument(rt, 2) {
+        Argument::Number(n) => with_events(rt, tick, num::bits(n) as usize, count),
         Argument::Bad => bad(),
     }
 }
 
-fn arguments() -> Wanted {
-    let count = os::arg_count();
+fn arguments(rt: &impl Env) -> Wanted {
+    let count = argument_count(rt);
     if 4 < count {
         return bad();
     }
-    match argument(1) {
-        Argument::Number(tick) => with_step(tick, count),
+    match argument(rt, 1) {
+        Argument::Number(tick) => with_step(rt, tick, count),
         Argument::Bad => bad(),
     }
 }
 
 // One read, behind the bytes at hand.
-fn read_on(buf: &mut [u8], hand: Hand) -> Fed {
+fn read_on(input: &mut impl Read, buf: &mut [u8], hand: Hand) -> Fed {
     let n = feed::keep(buf, hand);
-    let got = libc::read(STDIN_FILENO, &mut buf[n..]);
-    if got < 0 {
+    let Ok(more) = input.read(&mut buf[n..]) else {
         say(b"rewind: a read failed\n");
         return Fed { hand, failed: true };
-    }
-    let more = io::count(got, &buf[n..]);
+    };
     Fed {
         hand: feed::grow(buf.len(), n, more),
         failed: false,
@@ -136,9 +152,9 @@ fn read_on(buf: &mut [u8], hand: Hand) -> Fed {
 }
 
 // A read, where a turn wants more bytes.
-fn fed_on(wants: bool, buf: &mut [u8], hand: Hand) -> Fed {
+fn fed_on(wants: bool, input: &mut impl Read, buf: &mut [u8], hand: Hand) -> Fed {
     if wants {
-        return read_on(buf, hand);
+        return read_on(input, buf, hand);
     }
     Fed {
         hand,
@@ -255,16 +271,12 @@ fn go_all(
 }
 
 // What stands before the first call.
-fn before(started: LentStart, counts: Counts) -> LentGo {
-    let copy = started.board;
-    let board = copy.board;
-    let tick = board.tick;
-    let progress = started.progress;
+fn before(started: &LentStart, counts: Counts) -> LentGo {
     LentGo {
         answer: GoAnswer::Going,
-        tick,
+        tick: started.board.board.tick,
         counts,
-        progress,
+        progress: started.progress,
     }
 }
 
@@ -291,12 +303,10 @@ fn rewind_by(
         &mut own_inputs,
         &mut own_formers,
     );
-    let answer = started.answer;
-    let copy = started.board;
-    match answer {
+    match started.answer {
         StartAnswer::Started => go_all(
-            before(started, counts),
-            copy,
+            before(&started, counts),
+            started.board,
             &own_rows,
             &own_inputs,
             &own_formers,
@@ -324,7 +334,7 @@ fn rewind_to(
 
 // Turns until one is the last, then the rewind. Each turn gives an event, the end or a read; their number is there to bound them. After a
 // failed read nothing is printed.
-fn rewind(first: First, wanted: Wanted, buf: &mut [u8]) {
+fn rewind(first: First, wanted: Wanted, input: &mut impl Read, buf: &mut [u8]) {
     let mut rows = [0i32; 5120];
     let mut inputs = [0i32; 5120];
     let mut formers = [0i32; 5120];
@@ -350,7 +360,7 @@ fn rewind(first: First, wanted: Wanted, buf: &mut [u8]) {
         reader = next_reader;
         counts = next_counts;
         most = less(most, turned.count);
-        let fed = fed_on(turned.wants, buf, feed::pass(hand, turned.used));
+        let fed = fed_on(turned.wants, input, buf, feed::pass(hand, turned.used));
         let next_hand = fed.hand;
         hand = next_hand;
         failed = fed.failed;
@@ -411,8 +421,8 @@ fn begun(fed: Fed, buf: &[u8]) -> First {
     behind_version(number(buf[0]), hand)
 }
 
-fn begin(buf: &mut [u8]) -> First {
-    let fed = read_on(buf, Hand::empty());
+fn begin(input: &mut impl Read, buf: &mut [u8]) -> First {
+    let fed = read_on(input, buf, Hand::empty());
     begun(fed, buf)
 }
 
@@ -423,18 +433,18 @@ fn buffer() -> [u8; 131072]
     [0; 131072]
 }
 
-fn run(wanted: Wanted) {
+fn run(wanted: Wanted, input: &mut impl Read) {
     let mut buf = buffer();
-    let first = begin(&mut buf);
+    let first = begin(input, &mut buf);
     if first.goes {
-        rewind(first, wanted, &mut buf);
+        rewind(first, wanted, input, &mut buf);
     }
 }
 
-fn main() {
-    let wanted = arguments();
+fn main(rt: HostRuntime) {
+    let wanted = arguments(&rt);
     if wanted.good {
-        run(wanted);
+        run(wanted, &mut rt.stdin());
         return;
     }
     say(b"usage: rewind TICK [STEP [EVENTS]], each a number up to 2147483647\n");
