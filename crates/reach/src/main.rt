@@ -7,14 +7,29 @@ ghost use Rattle.std.specs.Prelude.{◌≡◌, ◌<◌, length};
 
 use feed::Hand;
 use kinds::{Version, VersionOf};
-use libc::{STDERR_FILENO, STDOUT_FILENO};
 use lines::Ending;
 use many::Stop;
 use packer::Part;
 use refusal::Refusal;
 use state::Pending;
+use std::alloc::Alloc;
+use std::env::{Env, FillError};
+use std::fs;
+use std::fs::Files;
+use std::io::{Error, Read};
 use teams::TeamReader;
 use varint::Wrote;
+
+const STDOUT_FILENO: i32 = 1;
+
+const STDERR_FILENO: i32 = 2;
+
+// The system's numbers of errors.
+const EINVAL: i32 = 22;
+
+const ENAMETOOLONG: i32 = 36;
+
+const EILSEQ: i32 = 84;
 
 // One of the two files.
 #[derive(Clone, Copy)]
@@ -85,17 +100,35 @@ fn tell_last(file: File, ending: Ending) {
     say_last(ending);
 }
 
-fn fail_open(file: File) {
-    match file {
-        File::From => os::fail(b"reach: FROM: can't be opened"),
-        File::To => os::fail(b"reach: TO: can't be opened"),
+// The text of an error without its number.
+fn cause(text: &str) -> &str {
+    match text.split_once(" (os error ") {
+        Some((cause, _)) => cause,
+        None => text,
     }
 }
 
-fn fail_read(file: File) {
+// A line: what failed, a colon and why.
+fn fail(rt: &impl Alloc, what: &[u8], error: Error) {
+    say(what);
+    if let Ok(text) = format!(in rt.alloc(); "{error}") {
+        say(b": ");
+        say(cause(text.as_str()).as_bytes());
+    }
+    say(b"\n");
+}
+
+fn fail_open(rt: &impl Alloc, file: File, error: Error) {
     match file {
-        File::From => os::fail(b"reach: FROM: a read failed"),
-        File::To => os::fail(b"reach: TO: a read failed"),
+        File::From => fail(rt, b"reach: FROM: can't be opened", error),
+        File::To => fail(rt, b"reach: TO: can't be opened", error),
+    }
+}
+
+fn fail_read(rt: &impl Alloc, file: File, error: Error) {
+    match file {
+        File::From => fail(rt, b"reach: FROM: a read failed", error),
+        File::To => fail(rt, b"reach: TO: a read failed", error),
     }
 }
 
@@ -108,40 +141,68 @@ fn place(file: File) -> usize {
     }
 }
 
-// A descriptor of the file that an argument names, or a negative number.
-fn open(file: File) -> i32 {
+// The error of an argument that names no file.
+fn no_name(error: FillError) -> Error {
+    match error {
+        FillError::NotPresent => Error::from_raw_os_error(EINVAL),
+        FillError::TooLong => Error::from_raw_os_error(ENAMETOOLONG),
+    }
+}
+
+// The file of a path, which is UTF-8.
+fn open_path<R: Files>(rt: &R, path: &[u8]) -> Result<R::File, Error> {
+    match str::from_utf8(path) {
+        Ok(path) => fs::open(rt, path),
+        Err(_) => Err(Error::from_raw_os_error(EILSEQ)),
+    }
+}
+
+// The file that an argument names.
+fn open_argument<R: Env + Files>(rt: &R, i: usize) -> Result<R::File, Error> {
     let mut path = io::buffer();
-    let n = os::arg(place(file), &mut path);
-    if os::errno() != 0 {
-        fail_open(file);
-        return -1;
+    match rt.arg(i, &mut path) {
+        Ok(n) => open_path(rt, &path[..n]),
+        Err(error) => Err(no_name(error)),
     }
-    let fd = os::open_read(&path[..n]);
-    if fd < 0 {
-        fail_open(file);
+}
+
+// The file that an argument names; a line where it can't be opened.
+fn open<R: Alloc + Env + Files>(rt: &R, file: File) -> Option<R::File> {
+    match open_argument(rt, place(file)) {
+        Ok(opened) => Some(opened),
+        Err(error) => {
+            fail_open(rt, file, error);
+            None
+        }
     }
-    fd
 }
 
 // One read, behind the bytes at hand.
-fn read_on(file: File, fd: i32, buf: &mut [u8], hand: Hand) -> Fed {
+fn read_on(rt: &impl Alloc, file: File, opened: &mut impl Read, buf: &mut [u8], hand: Hand) -> Fed {
     let n = feed::keep(buf, hand);
-    let got = libc::read(fd, &mut buf[n..]);
-    if got < 0 {
-        fail_read(file);
-        return Fed { hand, failed: true };
-    }
-    let more = io::count(got, &buf[n..]);
-    Fed {
-        hand: feed::grow(buf.len(), n, more),
-        failed: false,
+    match opened.read(&mut buf[n..]) {
+        Ok(more) => Fed {
+            hand: feed::grow(buf.len(), n, more),
+            failed: false,
+        },
+        Err(error) => {
+            fail_read(rt, file, error);
+            Fed { hand, failed: true }
+        }
     }
 }
 
 // A read, where a turn wants more bytes.
-fn fed_on(wants: bool, file: File, fd: i32, buf: &mut [u8], hand: Hand) -> Fed {
+fn fed_on(
+    wants: bool,
+    rt: &impl Alloc,
+    file: File,
+    opened: &mut impl Read,
+    buf: &mut [u8],
+    hand: Hand,
+) -> Fed {
     if wants {
-        return read_on(file, fd, buf, hand);
+        return read_on(rt, file, opened, buf, hand);
     }
     Fed {
         hand,
@@ -183,7 +244,13 @@ fn fewer(turns: u64, goes: bool) -> u64
 }
 
 // Turns until one is the last. Each gives an event, the end or a read; their number is there to bound them.
-fn read_body(first: First, file: File, fd: i32, buf: &mut [u8]) -> Left {
+fn read_body(
+    first: First,
+    rt: &impl Alloc,
+    file: File,
+    opened: &mut impl Read,
+    buf: &mut [u8],
+) -> Left {
     let mut reader = first.reader;
     let mut hand = first.hand;
     let mut stop = Stop::Full;
@@ -199,8 +266,9 @@ fn read_body(first: First, file: File, fd: i32, buf: &mut [u8]) -> Left {
         over = turned.over;
         let fed = fed_on(
             reads_on(turned.wants, next_stop),
+            rt,
             file,
-            fd,
+            opened,
             buf,
             feed::pass(hand, turned.used),
         );
@@ -306,8 +374,8 @@ fn begun(file: File, fed: Fed, buf: &[u8]) -> First {
     behind_version(file, number(buf[0]), hand)
 }
 
-fn begin(file: File, fd: i32, buf: &mut [u8]) -> First {
-    let fed = read_on(file, fd, buf, Hand::empty());
+fn begin(rt: &impl Alloc, file: File, opened: &mut impl Read, buf: &mut [u8]) -> First {
+    let fed = read_on(rt, file, opened, buf, Hand::empty());
     begun(file, fed, buf)
 }
 
@@ -318,23 +386,20 @@ fn no_body(reader: TeamReader) -> Body {
     }
 }
 
-// The file of a descriptor.
-fn read_fd(file: File, fd: i32, buf: &mut [u8]) -> Body {
-    let first = begin(file, fd, buf);
+// A file that is open.
+fn read_fd(rt: &impl Alloc, file: File, opened: &mut impl Read, buf: &mut [u8]) -> Body {
+    let first = begin(rt, file, opened, buf);
     if first.goes {
-        return body_of(file, read_body(first, file, fd, buf));
+        return body_of(file, read_body(first, rt, file, opened, buf));
     }
     no_body(first.reader)
 }
 
-fn read_file(file: File, buf: &mut [u8]) -> Body {
-    let fd = open(file);
-    if fd < 0 {
+fn read_file<R: Alloc + Env + Files>(rt: &R, file: File, buf: &mut [u8]) -> Body {
+    let Some(mut opened) = open(rt, file) else {
         return no_body(TeamReader::empty(Version::V1));
-    }
-    let body = read_fd(file, fd, buf);
-    libc::close(fd);
-    body
+    };
+    read_fd(rt, file, &mut opened, buf)
 }
 
 // ---- both
@@ -356,18 +421,15 @@ fn reach(from: TeamReader, to: TeamReader) {
 }
 
 // A kind that is pending at TO's end.
-fn is_between(to: TeamReader) -> bool {
-    let plain = to.reader;
-    let scalars = plain.scalars;
-    let pending = scalars.pending;
-    match pending {
+fn is_between(to: &TeamReader) -> bool {
+    match to.reader.scalars.pending {
         Pending::Is(_) => false,
         Pending::NoKind => true,
     }
 }
 
 fn reach_board(from: TeamReader, to: TeamReader) {
-    if is_between(to) {
+    if is_between(&to) {
         reach(from, to);
         return;
     }
@@ -381,21 +443,34 @@ fn buffer() -> [u8; 131072]
     [0; 131072]
 }
 
-fn run() {
+fn run<R: Alloc + Env + Files>(rt: &R) {
     let mut buf = buffer();
-    let from = read_file(File::From, &mut buf);
+    let from = read_file(rt, File::From, &mut buf);
     if !from.whole {
         return;
     }
-    let to = read_file(File::To, &mut buf);
+    let to = read_file(rt, File::To, &mut buf);
     if to.whole {
         reach_board(from.reader, to.reader);
     }
 }
 
-fn main() {
-    if os::arg_count() == 3 {
-        run();
+// How many arguments there are, the program's name among them; 4 stands for more.
+fn argument_count(rt: &impl Env) -> usize {
+    let mut text = [0u8; 0];
+    let mut count: usize = 0;
+    while count < 4 {
+        if let Err(FillError::NotPresent) = rt.arg(count, &mut text) {
+            return count;
+        }
+        count += 1;
+    }
+    count
+}
+
+fn main(rt: HostRuntime) {
+    if argument_count(&rt) == 3 {
+        run(&rt);
         return;
     }
     say(b"usage: reach FROM TO, each a file that holds a version byte and a body\n");
