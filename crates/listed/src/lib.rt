@@ -29,9 +29,10 @@ pub fn list_body(
     let read = listing::read_on(Results::empty(), Reader::empty(version), body, true);
     let list = read.list;
     let end = read.end;
+    let others = list.others;
     Listed {
         rows: ranking::rank(list, clients, times, ticks),
-        others: list.others,
+        others,
         end,
     }
 }
