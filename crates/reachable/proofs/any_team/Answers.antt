@@ -1,14 +1,8 @@
 -- `reachable::any_team` meets its contract. Assumes nothing.
-use Prim.Native.Nat.{ℕ, ◌≤◌, ◌-◌}
-use mathlib.Core.Path.{◌≡◌, ap}
-use mathlib.Core.Bool.{Bool, not}
-use mathlib.Core.List.{List}
+use mathlib.Core.Path.{ap}
+use mathlib.Core.Bool.{not}
 use native.Mathlib.Omega.{arith}
-use lib.IntN.{ℤ}
-use borrow.Author.Rules.{rules}
-use Rattle.state.specs.State.{every}
 use Rattle.state.proofs.Every.{none_yet, one_more, all_tested}
-use Rattle.teams.specs.Teams.{has_team}
 use Rattle.choice.specs.Reaching.{any_team}
 use Rattle.reachable.proofs.any_team.Goals as goal
 use Rattle.reachable.proofs.any_team.Invariants.{without}

@@ -1,15 +1,11 @@
 -- `reachable::any_team` meets its contract. Assumes nothing.
 use Prim.Native.Nat.{ℕ, ◌≤◌, ◌-◌}
-use mathlib.Core.Path.{◌≡◌, ap}
+use mathlib.Core.Path.{◌≡◌}
 use mathlib.Core.Bool.{Bool, not}
 use mathlib.Core.List.{List}
-use native.Mathlib.Omega.{arith}
 use lib.IntN.{ℤ}
-use borrow.Author.Rules.{rules}
 use Rattle.state.specs.State.{every}
-use Rattle.state.proofs.Every.{none_yet, one_more, all_tested}
 use Rattle.teams.specs.Teams.{has_team}
-use Rattle.choice.specs.Reaching.{any_team}
 use Rattle.reachable.proofs.any_team.Given as goal
 
 abbrev pub without : List ℤ → ℕ → Bool

@@ -1,20 +1,12 @@
 -- `reachable::differs_behind` meets its contract. Assumes nothing.
-use Prim.Native.Nat.{ℕ, ◌≤◌, ◌-◌}
 use mathlib.Core.Path.{◌≡◌, ap}
-use mathlib.Core.Bool.{Bool, true, not, cond}
-use mathlib.Core.List.{List, []}
+use mathlib.Core.Bool.{not}
+use mathlib.Core.List.{[]}
 use native.Mathlib.Omega.{arith}
-use lib.IntN.{ℤ, pos}
-use borrow.Author.Rules.{rules}
 use borrow.Author.Tests.{lt-ltb}
 use mir.Syntax.{w32}
 use mir.Facts.{to_z_pos}
-use Rattle.kinds.specs.declared.Cid.{Cid}
-use Rattle.state.specs.State.{entries_with, every}
-use Rattle.state.specs.Reading.{at_or_below}
-use Rattle.state.specs.declared.Entries.{Entries}
 use Rattle.state.proofs.Every.{none_yet, one_more, all_tested}
-use Rattle.choice.specs.Chosen.{player_of, same_player}
 use Rattle.choice.specs.Reaching.{differs_behind}
 use Rattle.reachable.proofs.differs_behind.Goals as goal
 use Rattle.reachable.proofs.differs_behind.Invariants.{placed, stays}

@@ -1,5 +1,4 @@
 -- `reachable::good_from` meets its contract. Assumes nothing.
-use borrow.Author.Rules.{rules}
 use Rattle.teams.specs.Teams.{good_team_reader}
 use Rattle.reachable.proofs.good_from.Goals as goal
 

@@ -1,5 +1,4 @@
 -- `reachable::good_to` meets its contract. Assumes nothing.
-use borrow.Author.Rules.{rules}
 use Rattle.back.specs.Board.{good_board}
 use Rattle.back.specs.TeamBoard.{good_team_board}
 use Rattle.reachable.proofs.good_to.Goals as goal

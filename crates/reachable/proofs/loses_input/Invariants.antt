@@ -1,15 +1,10 @@
 -- `reachable::loses_input` meets its contract. Assumes nothing.
 use Prim.Native.Nat.{ℕ, ◌≤◌, ◌-◌}
-use mathlib.Core.Path.{◌≡◌, ap}
-use mathlib.Core.Bool.{Bool, true, not, cond}
+use mathlib.Core.Path.{◌≡◌}
+use mathlib.Core.Bool.{Bool, true, cond}
 use mathlib.Core.List.{List, []}
-use native.Mathlib.Omega.{arith}
-use borrow.Author.Rules.{rules}
-use borrow.Author.Tests.{lt-ltb}
 use Rattle.state.specs.State.{entries_with, holds, every}
 use Rattle.state.specs.declared.Entries.{Entries}
-use Rattle.state.proofs.Every.{none_yet, one_more, all_tested}
-use Rattle.choice.specs.Reaching.{loses_input}
 use Rattle.reachable.proofs.loses_input.Given as goal
 
 -- entries with these input marks

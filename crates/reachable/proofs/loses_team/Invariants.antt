@@ -1,15 +1,11 @@
 -- `reachable::loses_team` meets its contract. Assumes nothing.
 use Prim.Native.Nat.{ℕ, ◌≤◌, ◌-◌}
-use mathlib.Core.Path.{◌≡◌, ap}
-use mathlib.Core.Bool.{Bool, true, not, cond}
+use mathlib.Core.Path.{◌≡◌}
+use mathlib.Core.Bool.{Bool, true, cond}
 use mathlib.Core.List.{List}
-use native.Mathlib.Omega.{arith}
 use lib.IntN.{ℤ}
-use borrow.Author.Rules.{rules}
 use Rattle.state.specs.State.{every}
-use Rattle.state.proofs.Every.{none_yet, one_more, all_tested}
 use Rattle.teams.specs.Teams.{has_team}
-use Rattle.choice.specs.Reaching.{loses_team}
 use Rattle.reachable.proofs.loses_team.Given as goal
 
 -- a client with a team keeps one
