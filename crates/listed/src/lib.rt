@@ -29,10 +29,9 @@ pub fn list_body(
     let read = listing::read_on(Results::empty(), Reader::empty(version), body, true);
     let list = read.list;
     let end = read.end;
-    let others = list.others;
     Listed {
         rows: ranking::rank(list, clients, times, ticks),
-        others,
+        others: list.others,
         end,
     }
 }
