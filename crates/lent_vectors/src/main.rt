@@ -51,21 +51,8 @@ fn report(name: &[u8], same: bool) {
     print(b", memory changed: ");
 }
 
-// The same reader, for a call that takes it.
-fn copy_of(reader: &Reader) -> Reader {
-    let scalars = reader.scalars;
-    let entries = Entries {
-        marks: reader.entries.marks,
-        xs: reader.entries.xs,
-        ys: reader.entries.ys,
-        held: reader.entries.held,
-        inputs: reader.entries.inputs,
-    };
-    Reader { scalars, entries }
-}
-
 // What a call on lent memory says, and what it leaves.
-#[derive(Drop)]
+#[derive(Clone, Copy)]
 struct LentRead {
     answer: Answer,
     reader: Reader,
@@ -115,25 +102,25 @@ fn lent_call(reader: Reader, body: &[u8]) -> LentRead {
     }
 }
 
-fn tell(read: &LentRead) {
+fn tell(read: LentRead) {
     let answer = read.answer;
     let input = read.input;
     print_text(texts::told(answer, input));
 }
 
 // Whether the ten numbers and the former ten are as they were lent.
-fn tens_kept(read: &LentRead) -> bool {
+fn tens_kept(read: LentRead) -> bool {
     let input = read.input;
     let former = read.former;
     all_are(&input, 1) & all_are(&former, 2)
 }
 
-fn by_lent(reader: &Reader) {
+fn by_lent(reader: Reader) {
     let body = BODY;
-    let read = lent_call(copy_of(reader), &body);
-    let same = alike::same_reader(copy_of(&read.reader), copy_of(reader));
-    report(b"lent", same & tens_kept(&read));
-    tell(&read);
+    let read = lent_call(reader, &body);
+    let left = read.reader;
+    report(b"lent", alike::same_reader(left, reader) & tens_kept(read));
+    tell(read);
 }
 
 fn print_stop(stop: Stop) {
@@ -160,35 +147,30 @@ fn print_many(name: &[u8], many: ManyAnswer, reader: Reader, lent: bool) {
 }
 
 // A call of many events with these rows, which are 3 all over.
-fn by_many(name: &[u8], reader: &Reader, rows: &mut [i32]) {
+fn by_many(name: &[u8], reader: Reader, rows: &mut [i32]) {
     let body = BODY;
     let mut tens = [4i32; 80];
     let given = TeamReader {
-        reader: copy_of(reader),
+        reader,
         teams: [0; 256],
     };
     let many = many::read_many(given, &body, true, rows, &mut tens);
-    print_many(
-        name,
-        many,
-        copy_of(reader),
-        all_are(rows, 3) & all_are(&tens, 4),
-    );
+    print_many(name, many, reader, all_are(rows, 3) & all_are(&tens, 4));
 }
 
 // Room for four events.
-fn with_room(reader: &Reader) {
+fn with_room(reader: Reader) {
     let mut rows = [3i32; 32];
     by_many(b"many", reader, &mut rows);
 }
 
 // Room for no row.
-fn without_room(reader: &Reader) {
+fn without_room(reader: Reader) {
     let mut row = [3i32; 7];
     by_many(b"no room", reader, &mut row);
 }
 
-fn each_call(reader: &Reader) {
+fn each_call(reader: Reader) {
     by_lent(reader);
     with_room(reader);
     without_room(reader);
@@ -196,14 +178,13 @@ fn each_call(reader: &Reader) {
 
 fn reader_case(case: &[u8]) {
     print(cases::name(case));
-    let reader = alike::reader_in(cases::behind_name(case));
-    each_call(&reader);
+    each_call(alike::reader_in(cases::behind_name(case)));
 }
 
 // ---- bodies
 
 // A reader and its place in the body; or that it is read.
-#[derive(Drop)]
+#[derive(Clone, Copy)]
 struct Spot {
     reader: Reader,
     at: usize,
@@ -220,17 +201,15 @@ fn past(spot: Spot, read: LentRead, len: usize) -> Spot {
         next.over = true;
         return next;
     };
-    next.at = cases::past(next.at, used, len);
+    next.at = cases::past(spot.at, used, len);
     next
 }
 
 // A call with a window to the body's end, which is the last.
 fn one_call(spot: Spot, body: &[u8]) -> Spot {
-    let read = lent_call(
-        copy_of(&spot.reader),
-        cases::window(body, spot.at, body.len()),
-    );
-    tell(&read);
+    let reader = spot.reader;
+    let read = lent_call(reader, cases::window(body, spot.at, body.len()));
+    tell(read);
     past(spot, read, body.len())
 }
 
