@@ -17,7 +17,6 @@ use back::{BoardTick, TeamBoard};
 use reel::{Counts, Reel};
 use refusal::Refusal;
 use rewinding::{Over, Sought};
-use state::{Entries, Reader};
 use teams::TeamReader;
 
 // The tick, how many rows of the own reel are newer than its TickStart, and whether an event didn't fit.
@@ -29,7 +28,7 @@ pub struct Progress {
 }
 
 // The copy of the board, the rewind's own reel, and how far it has come.
-#[derive(Drop)]
+#[derive(Clone, Copy)]
 pub struct Rewind {
     pub board: TeamBoard,
     pub reel: Reel,
@@ -43,14 +42,14 @@ pub enum StartAnswer {
 }
 
 // In a refusal there is no rewind, and what stands for it is blank.
-#[derive(Drop)]
+#[derive(Clone, Copy)]
 pub struct Start {
     pub answer: StartAnswer,
     pub rewind: Rewind,
 }
 
 // The same where the own reel's arrays are lent.
-#[derive(Drop)]
+#[derive(Clone, Copy)]
 pub struct LentStart {
     pub answer: StartAnswer,
     pub board: TeamBoard,
@@ -64,7 +63,7 @@ pub enum GoAnswer {
     Refused(Refusal),
 }
 
-#[derive(Drop)]
+#[derive(Clone, Copy)]
 pub struct Go {
     pub answer: GoAnswer,
     pub rewind: Rewind,
@@ -109,24 +108,6 @@ fn refuse_start(why: Refusal) -> LentStart
     }
 }
 
-// The same reader, for a call that takes it.
-fn same_reader(reader: &TeamReader) -> TeamReader
-    ensures { result ≡ reader.now }
-{
-    let scalars = reader.reader.scalars;
-    let entries = Entries {
-        marks: reader.reader.entries.marks,
-        xs: reader.reader.entries.xs,
-        ys: reader.reader.entries.ys,
-        held: reader.reader.entries.held,
-        inputs: reader.reader.entries.inputs,
-    };
-    TeamReader {
-        reader: Reader { scalars, entries },
-        teams: reader.teams,
-    }
-}
-
 // Starts a rewind to just after the newest TickStart of a tick on a reel; nothing is stepped over yet. The reel is copied into the rewind's
 // own. Refused 17 (reader, reel), 18 (a reader closed by a refusal), 20 (no such TickStart), in this order; then the own reel stays as it was.
 pub fn start_lent(
@@ -145,7 +126,7 @@ pub fn start_lent(
         (reel_of counts own_rows.old own_inputs.old own_formers.old) result
         (reel_of counts own_rows.new own_inputs.new own_formers.new) }
 {
-    match rewinding::seek(same_reader(&reader), counts, rows, tick) {
+    match rewinding::seek(reader, counts, rows, tick) {
         Sought::Newer(newer) => {
             *own_rows = *rows;
             *own_inputs = *inputs;

@@ -12,7 +12,7 @@ tick_same : (c : After-started) → Same c.args.tick
 tick_same c = search rules
 
 sought : (c : After-started) → let a = c.args in c.seek.result ≡ sought_in a.reader (reel_of a.counts a.rows.now a.inputs.now a.formers.now) a.tick
-sought c = let a = c.args in rw (c.same_reader.ensures, tick_same c) at (c.seek.ensures a.inputs.now a.formers.now)
+sought c = let a = c.args in rw (tick_same c) at (c.seek.ensures a.inputs.now a.formers.now)
 
 pub returns-in-Newer : goal.returns-in-Newer
 returns-in-Newer c =
@@ -26,7 +26,7 @@ tick_same_2 : (c : After-refuse_start) → Same c.args.tick
 tick_same_2 c = search rules
 
 sought_2 : (c : After-refuse_start) → let a = c.args in c.seek.result ≡ sought_in a.reader (reel_of a.counts a.rows.now a.inputs.now a.formers.now) a.tick
-sought_2 c = let a = c.args in rw (c.same_reader.ensures, tick_same_2 c) at (c.seek.ensures a.inputs.now a.formers.now)
+sought_2 c = let a = c.args in rw (tick_same_2 c) at (c.seek.ensures a.inputs.now a.formers.now)
 
 pub returns-in-Refused : goal.returns-in-Refused
 returns-in-Refused c =
