@@ -1,5 +1,5 @@
 // A call by value, held to the others on the same reader and window.
-use crate::{left, plain_copy, say};
+use crate::{left, say};
 use state::{Answer, Entries, Reader, Scalars};
 use team_reading::{TeamOutcome, TeamRead};
 use teams::{Team, TeamReader};
@@ -31,12 +31,13 @@ fn reader_of(scalars: Scalars, entries: Entries, teams: [i32; 256]) -> TeamReade
     }
 }
 
-fn same_read(lent: TeamOutcome, entries: Entries, teams: [i32; 256], got: &TeamRead) -> bool {
+fn same_read(lent: TeamOutcome, entries: Entries, teams: [i32; 256], got: TeamRead) -> bool {
     let outcome = lent.outcome;
     let scalars = outcome.scalars;
     let first = outcome.answer;
     let one = lent.former;
-    let second = got.read.answer;
+    let plain = got.read;
+    let second = plain.answer;
     let other = got.former;
     team_alike::same_team_reader(reader_of(scalars, entries, teams), left(got))
         & same_answer(first, second)
@@ -44,14 +45,16 @@ fn same_read(lent: TeamOutcome, entries: Entries, teams: [i32; 256], got: &TeamR
 }
 
 // Whether the call on lent entries and teams answers and leaves the same.
-fn same_lent(reader: &TeamReader, window: &[u8], last: bool, got: &TeamRead) -> bool {
+fn same_lent(reader: TeamReader, window: &[u8], last: bool, got: TeamRead) -> bool {
     let mut teams = reader.teams;
-    let scalars = reader.reader.scalars;
-    let mut marks = reader.reader.entries.marks;
-    let mut xs = reader.reader.entries.xs;
-    let mut ys = reader.reader.entries.ys;
-    let mut held = reader.reader.entries.held;
-    let mut inputs = reader.reader.entries.inputs;
+    let plain = reader.reader;
+    let scalars = plain.scalars;
+    let given = plain.entries;
+    let mut marks = given.marks;
+    let mut xs = given.xs;
+    let mut ys = given.ys;
+    let mut held = given.held;
+    let mut inputs = given.inputs;
     let mut input = [0i32; 10];
     let mut former = [0i32; 10];
     let lent = team_reading::read_lent(
@@ -77,19 +80,21 @@ fn same_lent(reader: &TeamReader, window: &[u8], last: bool, got: &TeamRead) -> 
     same_read(lent, entries, teams, got)
 }
 
-pub fn hold_lent(reader: &TeamReader, window: &[u8], last: bool, got: &TeamRead) {
+pub fn hold_lent(reader: TeamReader, window: &[u8], last: bool, got: TeamRead) {
     if !same_lent(reader, window, last, got) {
         say(b"on lent memory it differs\n");
     }
 }
 
 // The last call on a window, of a reader with good teams.
-pub fn hold_plain(reader: &TeamReader, window: &[u8], got: &TeamRead) {
-    let read = reader::read(plain_copy(&reader.reader), window, true);
+pub fn hold_plain(reader: TeamReader, window: &[u8], got: TeamRead) {
+    let given = reader.reader;
+    let read = reader::read(given, window, true);
     let first = read.answer;
     let one = read.reader;
-    let second = got.read.answer;
-    let other = plain_copy(&got.read.reader);
+    let plain = got.read;
+    let second = plain.answer;
+    let other = plain.reader;
     if !(alike::same_reader(one, other) & same_answer(first, second)) {
         say(b"without teams it differs\n");
     }

@@ -15,7 +15,7 @@ mod beside;
 use crate::beside::{hold_lent, hold_plain};
 use item::Item;
 use kinds::{Cid, Version};
-use state::{Answer, Entries, Event, Reader, Scalars};
+use state::{Answer, Event, Reader, Scalars};
 use team_reading::TeamRead;
 use teams::{Team, TeamReader};
 use texts::{Text, Used};
@@ -40,60 +40,43 @@ fn start(last: bool) -> usize {
     if last { 4 } else { 0 }
 }
 
-// The same reader, for a call that takes it.
-fn plain_copy(reader: &Reader) -> Reader {
-    let scalars = reader.scalars;
-    let entries = Entries {
-        marks: reader.entries.marks,
-        xs: reader.entries.xs,
-        ys: reader.entries.ys,
-        held: reader.entries.held,
-        inputs: reader.entries.inputs,
-    };
-    Reader { scalars, entries }
-}
-
-fn copy_of(reader: &TeamReader) -> TeamReader {
-    TeamReader {
-        reader: plain_copy(&reader.reader),
-        teams: reader.teams,
-    }
-}
-
 // The reader that a call left.
-fn left(read: &TeamRead) -> TeamReader {
-    TeamReader {
-        reader: plain_copy(&read.read.reader),
-        teams: read.teams,
-    }
+fn left(read: TeamRead) -> TeamReader {
+    let plain = read.read;
+    let reader = plain.reader;
+    let teams = read.teams;
+    TeamReader { reader, teams }
 }
 
-fn compare(reader: &TeamReader, next: TeamReader) {
-    if !team_alike::same_team_reader(copy_of(reader), next) {
+fn compare(reader: TeamReader, next: TeamReader) {
+    if !team_alike::same_team_reader(reader, next) {
         say(b"the reader is changed\n");
     }
 }
 
 // A reading call of a reader that may be bad or closed, on a PlayerNew or, as the last, on nothing: a refusal changes nothing.
-fn read(reader: &TeamReader, last: bool) {
+fn read(reader: TeamReader, last: bool) {
     let new = NEW;
     let window = cases::window(&new, start(last), 4);
-    let got = team_reading::read(copy_of(reader), window, last);
-    let answer = got.read.answer;
-    let input = got.read.input;
-    hold_lent(reader, window, last, &got);
+    let got = team_reading::read(reader, window, last);
+    let plain = got.read;
+    let answer = plain.answer;
+    let input = plain.input;
+    hold_lent(reader, window, last, got);
     if let Used::Bytes(_) = texts::used_in(answer) {
         say(b" event\n");
         return;
     }
     print(texts::told(answer, input));
-    compare(reader, left(&got));
+    compare(reader, left(got));
 }
 
 fn reader_case(s: &[u8]) {
     let reader = team_alike::team_reader_in(s);
-    let standing = reader.reader.scalars.standing;
-    read(&reader, standing.is_closed());
+    let plain = reader.reader;
+    let scalars = plain.scalars;
+    let standing = scalars.standing;
+    read(reader, standing.is_closed());
 }
 
 fn say_team(word: &[u8], team: Team, none: &[u8]) {
@@ -125,9 +108,10 @@ fn say_elsewhere(former: Team) {
 }
 
 // What a call of a body prints: the last one its answer, another a PlayerTeam.
-fn tell(read: &TeamRead) {
-    let answer = read.read.answer;
-    let input = read.read.input;
+fn tell(read: TeamRead) {
+    let plain = read.read;
+    let answer = plain.answer;
+    let input = plain.input;
     let former = read.former;
     if let Answer::Event { event, used: _ } = answer {
         say_joining(event, former);
@@ -138,10 +122,10 @@ fn tell(read: &TeamRead) {
 }
 
 // The last call on a window.
-fn call(reader: &TeamReader, window: &[u8]) -> TeamRead {
-    let got = team_reading::read(copy_of(reader), window, true);
-    hold_lent(reader, window, true, &got);
-    hold_plain(reader, window, &got);
+fn call(reader: TeamReader, window: &[u8]) -> TeamRead {
+    let got = team_reading::read(reader, window, true);
+    hold_lent(reader, window, true, got);
+    hold_plain(reader, window, got);
     got
 }
 
@@ -150,10 +134,11 @@ fn ended(given: TeamReader, body: &[u8]) -> TeamReader {
     let mut reader = given;
     let mut at: usize = 0;
     for _ in 0..100usize {
-        let got = call(&reader, cases::window(body, at, body.len()));
-        let answer = got.read.answer;
-        tell(&got);
-        reader = left(&got);
+        let got = call(reader, cases::window(body, at, body.len()));
+        let plain = got.read;
+        let answer = plain.answer;
+        tell(got);
+        reader = left(got);
         let Used::Bytes(used) = texts::used_in(answer) else {
             return reader;
         };
@@ -170,21 +155,21 @@ fn empty(b: u8) -> TeamReader {
     TeamReader::empty(version_of(b))
 }
 
-fn then(reader: &TeamReader, last: bool) {
+fn then(reader: TeamReader, last: bool) {
     say(b"  and then");
     read(reader, last);
 }
 
 fn body_case(s: &[u8]) {
     let reader = ended(empty(cases::byte(s, 0)), cases::window(s, 1, s.len()));
-    then(&reader, false);
-    then(&reader, true);
+    then(reader, false);
+    then(reader, true);
 }
 
 // The first body behind its length, then the other.
 fn two_bodies(reader: TeamReader, s: &[u8]) {
     let end = cases::past(1, cases::size(cases::byte(s, 0)), s.len());
-    let one = ended(copy_of(&reader), cases::window(s, 1, end));
+    let one = ended(reader, cases::window(s, 1, end));
     say(b"  and cut");
     let other = ended(reader, cases::window(s, end, s.len()));
     if !team_alike::same_team_reader(one, other) {
