@@ -1,0 +1,7 @@
+-- `reaching::input_choice` meets its contract. Assumes nothing.
+use borrow.Author.Rules.{rules}
+use Rattle.reaching.proofs.input_choice.Goals as goal
+
+pub returns : goal.returns
+returns c marks xs ys wmarks wxs wys =
+    rw (c.held_at.ensures marks xs ys, c.held_at-2.ensures wmarks wxs wys) at c.input_step.ensures
