@@ -1,5 +1,4 @@
 -- `reaching::input_choice` meets its contract. Assumes nothing.
-use borrow.Author.Rules.{rules}
 use Rattle.reaching.proofs.input_choice.Goals as goal
 
 pub returns : goal.returns

@@ -1,5 +1,4 @@
 -- `reaching::player_choice` meets its contract. Assumes nothing.
-use borrow.Author.Rules.{rules}
 use borrow.Author.Tests.{lt-ltb}
 use Rattle.reaching.proofs.player_choice.Goals as goal
 

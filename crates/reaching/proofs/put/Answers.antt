@@ -1,5 +1,4 @@
 -- `reaching::put` meets its contract. Assumes nothing.
-use borrow.Author.Rules.{rules}
 use borrow.Author.Tests.{not-true, not-false}
 use Rattle.reaching.proofs.Putting.{put_none, put_past, never_refused}
 use Rattle.reaching.proofs.put.Goals as goal

@@ -3,7 +3,6 @@ use Prim.Native.Nat.{◌≤◌}
 use mathlib.Core.List.{List, ◌++◌}
 use native.Mathlib.Omega.{arith}
 use lib.ListN.{length}
-use borrow.Author.Rules.{rules}
 use Rattle.record_writer.specs.steps.Puts.{PutsBytes}
 use Rattle.state.specs.State.{entries_with}
 use Rattle.state.specs.declared.Entries.{Entries}

@@ -1,7 +1,6 @@
 -- `reaching::put_changes` meets its contract. Assumes nothing.
 use mathlib.Core.List.{List}
 use native.Mathlib.Omega.{arith}
-use borrow.Author.Rules.{rules}
 use Rattle.state.specs.State.{entries_with}
 use Rattle.state.specs.declared.Entries.{Entries}
 use Rattle.choice.specs.Chosen.{Rec, team_for, joined, changes, all_changes}

@@ -1,6 +1,5 @@
 -- `reaching::put_entries` meets its contract. Assumes nothing.
 use native.Mathlib.Omega.{arith}
-use borrow.Author.Rules.{rules}
 use Rattle.state.specs.State.{entries_with}
 use Rattle.state.specs.declared.Entries.{Entries}
 use Rattle.choice.specs.Chosen.{player_for, input_for, joined, changes}

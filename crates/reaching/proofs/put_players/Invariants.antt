@@ -1,16 +1,9 @@
 -- `reaching::put_players` meets its contract. The loop's invariant: the records of the clients below `c` were put. Assumes nothing.
-use Prim.Native.Nat.{ℕ, ◌≤◌, ◌<◌, ◌-◌}
-use mathlib.Core.Path.{◌≡◌, ap, ◌∙◌, subst}
-use mathlib.Core.List.{List, []}
-use native.Mathlib.Omega.{arith}
-use lib.ListN.{length}
-use borrow.Author.Rules.{rules}
-use Rattle.packer.proofs.Joined.{written_length}
+use Prim.Native.Nat.{◌≤◌, ◌-◌}
+use mathlib.Core.List.{[]}
 use Rattle.record_writer.specs.steps.Puts.{PutsBytes}
 use Rattle.state.specs.State.{entries_with}
-use Rattle.choice.specs.Chosen.{Rec, player_of, player_for, joined, bytes_of}
-use Rattle.choice.proofs.Lengths.{player_le}
-use Rattle.reaching.proofs.Putting.{nothing_yet, all_fit, turn_ready, turn_put}
+use Rattle.choice.specs.Chosen.{player_for, joined, bytes_of}
 use Rattle.reaching.proofs.put_players.Given as goal
 
 abbrev pub invariant-loop-c : goal.invariant-loop-c

@@ -1,17 +1,13 @@
 -- `reaching::put_teams` meets its contract. The loop's invariant: the teams of the clients below `c` were put. Assumes nothing.
-use Prim.Native.Nat.{ℕ, ◌≤◌, ◌<◌, ◌-◌}
-use mathlib.Core.Path.{◌≡◌, ap, ◌∙◌, subst}
+use Prim.Native.Nat.{ℕ, ◌≤◌, ◌<◌}
 use mathlib.Core.List.{List}
 use native.Mathlib.Omega.{arith}
 use lib.ListN.{length}
 use lib.IntN.{pos}
-use borrow.Author.Rules.{rules}
-use Rattle.packer.proofs.Joined.{written_length}
-use Rattle.record_writer.specs.steps.Puts.{PutsBytes}
 use Rattle.teams.specs.Teams.{team_of}
-use Rattle.choice.specs.Chosen.{Rec, team_for, joined, bytes_of}
+use Rattle.choice.specs.Chosen.{Rec, team_for, bytes_of}
 use Rattle.choice.proofs.Lengths.{team_le}
-use Rattle.reaching.proofs.Putting.{nothing_yet, all_fit, turn_ready, turn_put}
+use Rattle.reaching.proofs.Putting.{nothing_yet, turn_ready, turn_put}
 use Rattle.reaching.proofs.put_teams.Goals as goal
 use Rattle.reaching.proofs.put_teams.Goals.{After-put-arg-1, After-slice_known-in-loop-c-1}
 

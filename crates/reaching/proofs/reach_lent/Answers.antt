@@ -16,10 +16,10 @@ use Rattle.choice.specs.Reaching.{may, may_reach}
 use Rattle.choice.proofs.Lengths.{chosen_le}
 use Rattle.reachable.specs.steps.Tests.{AllowedIs}
 use Rattle.reachable.specs.declared.Allowed.{Allowed}
-use Rattle.reaching.proofs.Answers.{teams_in_law, reach_refused, reach_done}
+use Rattle.reaching.proofs.Answers.{teams_in_law, reach_done}
 use Rattle.reaching.proofs.Putting.{front_shown}
 use Rattle.reaching.proofs.reach_lent.Goals as goal
-use Rattle.reaching.proofs.reach_lent.Goals.{After-bytes-1, After-slice_known-in-To-1, Start}
+use Rattle.reaching.proofs.reach_lent.Goals.{After-bytes-1, After-slice_known-in-To-1}
 
 abbrev reader : After-bytes-1 → TeamReader
 reader c =
@@ -33,18 +33,15 @@ wanted c =
 
 -- the wanted tick, and that it may be reached
 module _ (c : After-bytes-1) where
-  abbrev first : Start
-  first = c
-
-  to : (may_reach (reader first) (wanted first) ≡ may) × ((wanted first).board.tick ≡ In c.in-To.u)
+  to : (may_reach (reader c) (wanted c) ≡ may) × ((wanted c).board.tick ≡ In c.in-To.u)
   to =
-      subst (λ (x : Allowed). AllowedIs first.args.tick x (may_reach (reader first) (wanted first))) c.in-To.is
+      subst (λ (x : Allowed). AllowedIs c.args.tick x (may_reach (reader c) (wanted c))) c.in-To.is
       c.may_reach-allowed.ensures
 
 pub put_all-n-requires : goal.put_all-n-requires
 put_all-n-requires c =
     let n = c in
-    let st = first n in
+    let st = n in
     (omega (arith, c.memory-bytes.ensures), teams_in_law (reader st) (wanted st) n.in-To.u (to n).0 (to n).1)
 
 abbrev reader_2 : After-slice_known-in-To-1 → TeamReader
@@ -59,12 +56,9 @@ wanted_2 c =
 
 -- the wanted tick, and that it may be reached
 module _ (c : After-slice_known-in-To-1) where
-  abbrev first_2 : Start
-  first_2 = c
-
-  to_2 : (may_reach (reader_2 first_2) (wanted_2 first_2) ≡ may) × ((wanted_2 first_2).board.tick ≡ In c.in-To.u)
+  to_2 : (may_reach (reader_2 c) (wanted_2 c) ≡ may) × ((wanted_2 c).board.tick ≡ In c.in-To.u)
   to_2 =
-      subst (λ (x : Allowed). AllowedIs first_2.args.tick x (may_reach (reader_2 first_2) (wanted_2 first_2))) c.in-To.is
+      subst (λ (x : Allowed). AllowedIs c.args.tick x (may_reach (reader_2 c) (wanted_2 c))) c.in-To.is
       c.may_reach-allowed.ensures
 
 pub returns-in-To : goal.returns-in-To
@@ -82,4 +76,4 @@ returns-in-To c =
     (omega (arith, le, n.memory-bytes.ensures))
     n.put_all-n.result n.put_all-n.new.out p in
     let w = c.write_raw.ensures in
-    reach_done r b st.args.out.now n.in-To.u m.0 m.1 _ _ _ (c.show.ensures ∙ f) w.0 w.1
+    reach_done r b st.args.out.now n.in-To.u m.0 m.1 _ _ _ (c.show.ensures ∙ f) w.answer w.target
