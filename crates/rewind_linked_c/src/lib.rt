@@ -44,7 +44,9 @@ pub extern "C" fn jolzerv_rewind_body(
         rows.new inputs.new formers.new
         (entries_with marks.new xs.new ys.new held.new numbers.new) teams.new }
 {
-    rewind_linked::jolzerv_rewind_body(second, body, tick, rows, inputs, formers, marks, xs, ys, held, numbers, teams)
+    rewind_linked::jolzerv_rewind_body(
+        second, body, tick, rows, inputs, formers, marks, xs, ys, held, numbers, teams,
+    )
 }
 
 // Reads a body whole with a reel beside in arrays lent, and starts a rewind to a tick: 0, or the number of the refusal. The reel is the rewind's own.
@@ -70,7 +72,9 @@ pub extern "C" fn jolzerv_start_rewind(
         result rows.new inputs.new formers.new
         (entries_with marks.new xs.new ys.new held.new numbers.new) teams.new three.new two.new }
 {
-    rewind_linked::jolzerv_start_rewind(second, body, tick, rows, inputs, formers, marks, xs, ys, held, numbers, teams, three, two)
+    rewind_linked::jolzerv_start_rewind(
+        second, body, tick, rows, inputs, formers, marks, xs, ys, held, numbers, teams, three, two,
+    )
 }
 
 // Goes on with a rewind to a tick by at most so many events: 0 if it has ended, 255 if it is still going, or the number of the refusal.
@@ -95,5 +99,7 @@ pub extern "C" fn jolzerv_go_on(
         events three.old two.old result
         (entries_with marks.new xs.new ys.new held.new numbers.new) teams.new three.new two.new }
 {
-    rewind_linked::jolzerv_go_on(tick, events, rows, inputs, formers, marks, xs, ys, held, numbers, teams, three, two)
+    rewind_linked::jolzerv_go_on(
+        tick, events, rows, inputs, formers, marks, xs, ys, held, numbers, teams, three, two,
+    )
 }
