@@ -1,3 +1,0 @@
-pub mod Going
-pub mod Lent
-pub mod steps

@@ -1,6 +1,0 @@
-pub mod Lengths
-pub mod Bodies
-pub mod Ticks
-pub mod Refused
-pub mod Windows
-pub mod Theorems

@@ -1,3 +1,0 @@
-pub mod CausesOfActs
-pub mod Answered
-pub mod Theorems

@@ -1,3 +1,0 @@
-pub mod Linked
-pub mod UnderWay
-pub mod steps
