@@ -1,6 +1,6 @@
 #!/usr/bin/env python3
 """port_crate.py CRATE [--all]: in a repository: turns CRATE's Proof.antt files and checks."""
-import os,re,subprocess,sys
+import os,re,subprocess,sys,tempfile
 sys.path.insert(0,os.path.dirname(os.path.realpath(__file__)))
 import conv
 root=subprocess.run(['git','rev-parse','--show-toplevel'],capture_output=True,text=True).stdout.strip()
@@ -21,8 +21,8 @@ def open_goals(said):
 def main():
     crate=sys.argv[1]; every='--all' in sys.argv
     cd=f'{root}/crates/{crate}'
-    np=f'/tmp/names/{os.path.basename(root)}-{crate}/names.json'
-    os.makedirs('/tmp/names',exist_ok=True)
+    np=os.path.join(tempfile.gettempdir(),'port-names',f'{os.path.basename(root)}-{crate}','names.json')
+    os.makedirs(os.path.join(tempfile.gettempdir(),'port-names'),exist_ok=True)
     if not os.path.exists(np) or '--names' in sys.argv:
         t=sh(['rt','check','--generated',os.path.dirname(np),'--old-names'],cd)
         if not os.path.exists(np):
@@ -48,7 +48,6 @@ def main():
     sh(['rt','fmt'],cd)
     said=sh(['rt','check'],cd)
     if re.search(r'(?m)^logic=proved',said):
-        open(f'/tmp/port-said-{os.path.basename(root)}-{crate}.txt','w').write(said)
         print(clean(said)[-500:]); return
     og=open_goals(said)
     n=0
@@ -68,6 +67,5 @@ def main():
     print(f'{n} answer files written')
     sh(['rt','fmt'],cd)
     if n: said=sh(['rt','check'],cd)
-    open(f'/tmp/port-said-{os.path.basename(root)}-{crate}.txt','w').write(said)
     print(clean(said)[-int(os.environ.get('MAXOUT','9000')):])
 main()

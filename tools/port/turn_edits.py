@@ -1,5 +1,5 @@
 import os,re,subprocess,sys,collections,difflib
-ROOT=os.getcwd(); OLD=os.environ.get('LANDED','/tmp/landed')
+ROOT=os.getcwd(); OLD=os.environ['LANDED']
 TOK=re.compile(r"[^\s(){}.;,@\"«»\[\]<>&|!=+*/:`?-]+(?:-[^\s(){}.;,@\"«»\[\]<>&|!=+*/:`?-]+)*|.")
 def toks(s): return [t for t in TOK.findall(s) if not t.isspace()]
 def show(rev,path):
