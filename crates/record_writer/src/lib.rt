@@ -104,16 +104,6 @@ fn left_piece(left: Left, s: &[u8], piece: Piece) -> Left
     }
 }
 
-// The arguments, again.
-fn copy_of(args: &Args) -> Args
-    ensures { result ≡ args.now }
-{
-    Args {
-        count: args.count,
-        parts: args.parts,
-    }
-}
-
 // The room that is left after a record.
 fn measure(room: Left, o: Outline, s: &[u8], ten: [i32; 10], args: Args) -> Left
     ensures { result ≡ left_after room (pieces_ok s.now (pieces_of o ten args)) (length (pieces_bytes s.now (pieces_of o ten args))) }
@@ -123,7 +113,7 @@ fn measure(room: Left, o: Outline, s: &[u8], ten: [i32; 10], args: Args) -> Left
     let tail = o.tail;
     let end = pieces::past_pieces(tail);
     while i < end {
-        left = left_piece(left, s, pieces::piece_at(o, ten, copy_of(&args), i));
+        left = left_piece(left, s, pieces::piece_at(o, ten, args, i));
         i += 1;
     }
     left
@@ -229,7 +219,7 @@ fn put_pieces(o: Outline, s: &[u8], ten: [i32; 10], args: Args, out: &mut [u8], 
     let mut i = 0;
     while i < end {
         next = past(
-            write_piece(s, pieces::piece_at(o, ten, copy_of(&args), i), out, next),
+            write_piece(s, pieces::piece_at(o, ten, args, i), out, next),
             next,
         );
         i += 1;
@@ -259,7 +249,7 @@ fn write_outline(
     ensures answer { result ≡ wrote_if (pieces_ok s.now (pieces_of o ten args)) out.old at (pieces_bytes s.now (pieces_of o ten args)) }
     ensures target { out.new ≡ written_if (pieces_ok s.now (pieces_of o ten args)) out.old at (pieces_bytes s.now (pieces_of o ten args)) }
 {
-    let left = measure(room_at(out.len(), at), o, s, ten, copy_of(&args));
+    let left = measure(room_at(out.len(), at), o, s, ten, args);
     match left {
         Left::Room(_) => Wrote::Past(put_pieces(o, s, ten, args, out, at)),
         Left::Short => Wrote::Refused(Refusal::ShortTarget),
@@ -267,7 +257,7 @@ fn write_outline(
     }
 }
 
-// The record's bytes into the target, at a place, and nothing else: 11 where one of the eight tests of `recordWritable` holds, then 9
+// The record's bytes into the target, at a place, and nothing else: 11 where one of the eight tests of `record_writable` holds, then 9
 // where the target is too short.
 pub fn write_record(version: Version, value: Record, s: &[u8], out: &mut [u8], at: usize) -> Wrote
     ensures { Writes version s.now value out.old at result out.new }
@@ -278,6 +268,6 @@ pub fn write_record(version: Version, value: Record, s: &[u8], out: &mut [u8], a
     let taken = item.take_apart();
     let tag = taken.tag;
     let f = taken.fields;
-    let o = outline_of(version, tag, s, f, ten, copy_of(&args));
+    let o = outline_of(version, tag, s, f, ten, args);
     write_outline(o, s, ten, args, out, at)
 }

@@ -1,4 +1,4 @@
--- Nothing but the event of a record that changes no entry has arguments beside it that `slimStep` leaves out. Assumes nothing.
+-- Nothing but the event of a record that changes no entry has arguments beside it that `slim_step` leaves out. Assumes nothing.
 use Prim.Native.Nat.{ℕ}
 use mathlib.Core.Path.{◌≡◌, refl, ap}
 use mathlib.Core.Bool.{Bool, true, false}

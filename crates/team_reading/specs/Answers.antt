@@ -24,7 +24,7 @@ pub record TellsTeams (t : TeamStep) (r : TeamRead) : Type 0 where
 abbrev pub TeamReadIs : TeamReader → List ℕ → Bool → TeamRead → Type 0
 TeamReadIs reader w last r = TellsTeams (team_call reader w last) r
 
--- ---- on lent memory and teams: 17 of the teams comes first, as `teamCall` has it
+-- ---- on lent memory and teams: 17 of the teams comes first, as `team_call` has it
 
 unfoldable pub team_call_on : Scalars → Memory → List ℤ → List ℕ → Bool → TeamStep
 team_call_on s m t w last =

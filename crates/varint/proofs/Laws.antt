@@ -26,7 +26,7 @@ grows (suc (suc (suc zero))) b h = omega arith
 grows (suc (suc (suc (suc zero)))) b h = omega arith
 grows (suc (suc (suc (suc (suc k))))) b h = absurd (omega arith)
 
--- one byte of `readFrom`, the last or not
+-- one byte of `read_from`, the last or not
 module _ (s : List ℕ) (at k sign n i : ℕ) (within : i < length s) where
   pub read_last : is_last k (get_or s i 0) ≡ true → read_from (drop i s) at k sign n ≡ Got (value_of sign (n + amount k (get_or s i 0))) (at + k + 1) (remark_of k (get_or s i 0))
   unfolding read_from

@@ -29,7 +29,7 @@ IntReadsWritten =
     (s : List ℕ) (at next : ℕ) (z : ℤ) → Bytes s → read_int s at ≡ Got z next None
     → (take (next - at) (drop at s) ≡ canonical z) × (next ≡ at + length (canonical z))
 
--- what every writer answers, with the numbers of the refusals; `wrote` is `wroteIf true`
+-- what every writer answers, with the numbers of the refusals; `wrote` is `wrote_if true`
 abbrev pub WritersSay : Type 0
 WritersSay = (ok : Bool) (xs : List ℕ) (at : ℕ) (bs : List ℕ) → wrote_said (wrote_if ok xs at bs) ≡ writing ok xs at bs
 

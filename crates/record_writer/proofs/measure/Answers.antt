@@ -1,8 +1,7 @@
 -- `record_writer::measure` meets its contract. The loop's invariant: the pieces from `i` on leave of the room left what all of them leave of it. Assumes nothing.
-use mathlib.Core.Path.{◌≡◌, ◌∙◌, ap}
+use mathlib.Core.Path.{◌≡◌, ◌∙◌}
 use lib.ListN.{get_or}
 use Rattle.pieces.specs.steps.Pieces.{pieces_of}
-use Rattle.fields.specs.declared.Args.{Args}
 use Rattle.pieces.specs.declared.Piece.TheVariants.{Empty}
 use Rattle.record_writer.proofs.Leaves.{left_next}
 use Rattle.record_writer.proofs.measure.Goals as goal
@@ -12,5 +11,5 @@ loop-i-preserved c =
     let a = c.args in
     let l = c.loop-i in
     let p : c.piece_at.result ≡ get_or (pieces_of a.o a.ten a.args) l.i Empty =
-    c.piece_at.ensures ∙ ap (λ (x : Args). get_or (pieces_of a.o a.ten x) l.i Empty) c.copy_of.ensures in
+    c.piece_at.ensures in
     rw (c.left_piece-left.ensures, p) (left_next a.s.now (pieces_of a.o a.ten a.args) l.i l.left ∙ l.invariant)

@@ -1,12 +1,11 @@
 -- `record_writer::put_pieces` meets its contract. The loop's invariant: the pieces from `i` on
 -- can be written and make of the target what all of them make of it. Assumes nothing.
 use Prim.Native.Nat.{ℕ, ◌+◌, ◌≤◌}
-use mathlib.Core.Path.{◌≡◌, refl, sym, ◌∙◌, ap}
+use mathlib.Core.Path.{◌≡◌, refl, sym, ◌∙◌}
 use mathlib.Core.Bool.{true, and-eq-true_iff}
 use mathlib.Core.List.{List, ◌++◌}
 use native.Mathlib.Omega.{arith}
 use lib.ListN.{length, get_or, drop, drop_of_length-le}
-use Rattle.fields.specs.declared.Args.{Args}
 use Rattle.pieces.specs.steps.Pieces.{piece_ok, piece_bytes, pieces_of, pieces_ok, pieces_bytes}
 use Rattle.pieces.specs.declared.Piece.{Piece}
 use Rattle.pieces.specs.declared.Piece.TheVariants.{Empty}
@@ -34,7 +33,7 @@ pub write_piece-requires : goal.write_piece-requires
 write_piece-requires c =
     let a = c.args in
     let p : c.piece_at.result ≡ get_or (pieces_of a.o a.ten a.args) c.loop-i.i Empty =
-    c.piece_at.ensures ∙ ap (λ (x : Args). get_or (pieces_of a.o a.ten x) c.loop-i.i Empty) c.copy_of.ensures in
+    c.piece_at.ensures in
     let l = c.loop-i in
     let ps = pieces_of a.o a.ten a.args in
     rw p (
@@ -50,7 +49,7 @@ loop-i-preserved c =
     let ps = pieces_of a.o a.ten a.args in
     let p = get_or (pieces_of a.o a.ten a.args) l.i Empty in
     let q : c.piece_at.result ≡ p =
-    c.piece_at.ensures ∙ ap (λ (x : Args). get_or (pieces_of a.o a.ten x) l.i Empty) c.copy_of.ensures in
+    c.piece_at.ensures in
     let w = rw q at c.write_piece.ensures in (
       (oks s ps l.i a.out.now a.at l.out l.next l.invariant.0 l.invariant.1).1,
       rest_step a.out.now a.at (pieces_bytes s (pieces_of a.o a.ten a.args)) c.requires.1 l.out l.next (piece_bytes s p)

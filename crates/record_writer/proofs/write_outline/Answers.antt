@@ -13,25 +13,23 @@ use Rattle.record_writer.specs.declared.Left.{Left}
 use Rattle.record_writer.proofs.Room.{has_room, no_room, no_form}
 use Rattle.record_writer.proofs.write_outline.Goals as goal
 
--- the room that is left, by what was measured with the same arguments
-measured : (o : Outline) (s : List ℕ) (ten : List ℤ) (args again : Args) (room left : Left) (n at : ℕ) → again ≡ args → room ≡ room_at n at
-    → left ≡ left_after room (pieces_ok s (pieces_of o ten again)) (length (pieces_bytes s (pieces_of o ten again)))
+-- the room that is left, by what was measured
+measured : (o : Outline) (s : List ℕ) (ten : List ℤ) (args : Args) (room left : Left) (n at : ℕ) → room ≡ room_at n at
+    → left ≡ left_after room (pieces_ok s (pieces_of o ten args)) (length (pieces_bytes s (pieces_of o ten args)))
     → left ≡ left_after (room_at n at) (pieces_ok s (pieces_of o ten args)) (length (pieces_bytes s (pieces_of o ten args)))
-measured o s ten args again room left n at e r m =
-    m
-    ∙ ap (λ (x : Args). left_after room (pieces_ok s (pieces_of o ten x)) (length (pieces_bytes s (pieces_of o ten x)))) e
-    ∙ ap (λ (x : Left). left_after x (pieces_ok s (pieces_of o ten args)) (length (pieces_bytes s (pieces_of o ten args)))) r
+measured o s ten args room left n at r m =
+    m ∙ ap (λ (x : Left). left_after x (pieces_ok s (pieces_of o ten args)) (length (pieces_bytes s (pieces_of o ten args)))) r
 
 pub put_pieces-requires : goal.put_pieces-requires
 put_pieces-requires c =
     let a = c.args in
-    let m = measured a.o a.s.now a.ten a.args _ _ _ (length a.out.now) a.at c.copy_of.ensures c.room_at.ensures c.measure-left.ensures in
+    let m = measured a.o a.s.now a.ten a.args _ _ (length a.out.now) a.at c.room_at.ensures c.measure-left.ensures in
     has_room a.out.now a.at (pieces_ok a.s.now (pieces_of a.o a.ten a.args)) (pieces_bytes a.s.now (pieces_of a.o a.ten a.args)) _ m _ c.in-Room.is
 
 pub returns-in-Room : goal.returns-in-Room
 returns-in-Room c =
     let a = c.args in
-    let m = measured a.o a.s.now a.ten a.args _ _ _ (length a.out.now) a.at c.copy_of.ensures c.room_at.ensures c.measure-left.ensures in
+    let m = measured a.o a.s.now a.ten a.args _ _ (length a.out.now) a.at c.room_at.ensures c.measure-left.ensures in
     let r =
     has_room a.out.now a.at (pieces_ok a.s.now (pieces_of a.o a.ten a.args)) (pieces_bytes a.s.now (pieces_of a.o a.ten a.args)) _ m _ c.in-Room.is in
     let p = put_answer a.out.now a.at (pieces_bytes a.s.now (pieces_of a.o a.ten a.args)) r.1 _ _ c.put_pieces.ensures in
@@ -40,13 +38,13 @@ returns-in-Room c =
 pub returns-in-Short : goal.returns-in-Short
 returns-in-Short c =
     let a = c.args in
-    let m = measured a.o a.s.now a.ten a.args _ _ _ (length a.out.now) a.at c.copy_of.ensures c.room_at.ensures c.measure-left.ensures in
+    let m = measured a.o a.s.now a.ten a.args _ _ (length a.out.now) a.at c.room_at.ensures c.measure-left.ensures in
     let said = no_room a.out.now a.at (pieces_ok a.s.now (pieces_of a.o a.ten a.args)) (pieces_bytes a.s.now (pieces_of a.o a.ten a.args)) _ m c.in-Short.is in
     record { answer = said.0; target = said.1 }
 
 pub returns-in-Unwritable : goal.returns-in-Unwritable
 returns-in-Unwritable c =
     let a = c.args in
-    let m = measured a.o a.s.now a.ten a.args _ _ _ (length a.out.now) a.at c.copy_of.ensures c.room_at.ensures c.measure-left.ensures in
+    let m = measured a.o a.s.now a.ten a.args _ _ (length a.out.now) a.at c.room_at.ensures c.measure-left.ensures in
     let said = no_form a.out.now a.at (pieces_ok a.s.now (pieces_of a.o a.ten a.args)) (pieces_bytes a.s.now (pieces_of a.o a.ten a.args)) _ m c.in-Unwritable.is in
     record { answer = said.0; target = said.1 }

@@ -1,7 +1,4 @@
 -- `record_writer::write_record` meets its contract: the record is taken apart, and written by its outline. Assumes nothing.
-use mathlib.Core.Path.{subst}
-use Rattle.fields.specs.declared.Args.{Args}
-use Rattle.outlines.specs.steps.Outlines.{Outlines}
 use Rattle.item.specs.steps.Taken.{from_fields}
 use Rattle.record_writer.proofs.Whole.{outline_writes}
 use Rattle.record_writer.proofs.write_record.Goals as goal
@@ -12,5 +9,5 @@ returns c =
     let t = c.take_apart-taken in
     let o = c.outline_of-o in
     outline_writes a.version a.s.now a.value (from_fields t.result.tag t.result.fields) t.ensures.values o.result
-    (subst (λ (x : Args). Outlines a.version a.s.now (from_fields t.result.tag t.result.fields) a.value.input x o.result) c.copy_of.ensures o.ensures)
+    o.ensures
     a.out.now a.at _ _ (c.write_outline.ensures.answer, c.write_outline.ensures.target)

@@ -1,0 +1,3 @@
+pub mod Going
+pub mod Lent
+pub mod steps

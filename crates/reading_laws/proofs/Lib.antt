@@ -1,0 +1,3 @@
+pub mod CausesOfActs
+pub mod Answered
+pub mod Theorems
