@@ -177,11 +177,12 @@ fn list_good(list: Results, reader: Reader, window: &[u8], last: bool) -> ListRe
     ensures { said_run result ≡ list_run list reader (whole_run reader window.now last) }
 {
     let scalars = reader.scalars;
-    let mut marks = reader.entries.marks;
-    let mut xs = reader.entries.xs;
-    let mut ys = reader.entries.ys;
-    let mut held = reader.entries.held;
-    let mut inputs = reader.entries.inputs;
+    let entries = reader.entries;
+    let mut marks = entries.marks;
+    let mut xs = entries.xs;
+    let mut ys = entries.ys;
+    let mut held = entries.held;
+    let mut inputs = entries.inputs;
     let mut input = [0i32; 10];
     let mut former = [0i32; 10];
     let mut listed = list.marks;
@@ -241,13 +242,9 @@ fn answer_of(r: CallsRead, list: Results, entries: Entries) -> ListRead
 pub fn read_on(list: Results, reader: Reader, window: &[u8], last: bool) -> ListRead
     ensures { said_run result ≡ list_run list reader (whole_run reader window.now last) }
 {
-    if !good_reader::good_state(
-        reader.scalars,
-        &reader.entries.marks,
-        &reader.entries.xs,
-        &reader.entries.ys,
-        &reader.entries.held,
-        &reader.entries.inputs,
+    if !good::both(
+        good_reader::good_scalars(reader.scalars),
+        good::good_entries(reader.entries),
     ) {
         return unread(Refusal::BadState, list, reader);
     }

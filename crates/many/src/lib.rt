@@ -191,17 +191,16 @@ pub fn read_many(
 ) -> ManyAnswer
     ensures { ManyIs (many_calls (room rows.old tens.old) reader window.now last) reader.teams rows.old tens.old result rows.new tens.new }
 {
-    let scalars = reader.reader.scalars;
+    let teams = reader.teams;
+    let plain = reader.reader;
+    let scalars = plain.scalars;
+    let entries = plain.entries;
     if !good::both(
-        good_reader::good_state(
-            scalars,
-            &reader.reader.entries.marks,
-            &reader.reader.entries.xs,
-            &reader.reader.entries.ys,
-            &reader.reader.entries.held,
-            &reader.reader.entries.inputs,
+        good::both(
+            good_reader::good_scalars(scalars),
+            good::good_entries(entries),
         ),
-        teams::good_teams(&reader.teams),
+        teams::good_teams(&teams),
     ) {
         return unread(Stop::Refused(Refusal::BadState), reader);
     }
@@ -210,8 +209,5 @@ pub fn read_many(
         return unread(Stop::Refused(Refusal::Closed), reader);
     }
     let free = rows::room_for(rows.len(), tens.len());
-    let teams = reader.teams;
-    let plain = reader.reader;
-    let entries = plain.entries;
     read_good(scalars, entries, teams, window, last, rows, tens, free)
 }

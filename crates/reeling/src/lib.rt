@@ -211,19 +211,18 @@ pub fn read_kept(
         (reel_of counts rows.old inputs.old formers.old) result
         (reel_of result.counts rows.new inputs.new formers.new) }
 {
-    let scalars = reader.reader.scalars;
+    let teams = reader.teams;
+    let plain = reader.reader;
+    let scalars = plain.scalars;
+    let entries = plain.entries;
     if !good::both(
         reel::good_counts(counts),
         good::both(
-            good_reader::good_state(
-                scalars,
-                &reader.reader.entries.marks,
-                &reader.reader.entries.xs,
-                &reader.reader.entries.ys,
-                &reader.reader.entries.held,
-                &reader.reader.entries.inputs,
+            good::both(
+                good_reader::good_scalars(scalars),
+                good::good_entries(entries),
             ),
-            teams::good_teams(&reader.teams),
+            teams::good_teams(&teams),
         ),
     ) {
         return unread(Refusal::BadState, reader, counts);
@@ -232,9 +231,6 @@ pub fn read_kept(
     if standing.is_closed() {
         return unread(Refusal::Closed, reader, counts);
     }
-    let teams = reader.teams;
-    let plain = reader.reader;
-    let entries = plain.entries;
     keep_good(
         scalars, entries, teams, window, last, most, counts, rows, inputs, formers,
     )

@@ -53,6 +53,7 @@ pub struct Over {
 }
 
 // The newest TickStart of a tick.
+#[tactic(auto, using(crate::proofs::Steps::before_below))]
 fn find_start(counts: Counts, rows: &[i32; 5120], tick: i32) -> Found
     requires { (counts.next < 512) × (counts.count ≤ 512) }
     ensures { (inputs formers : List ℤ) → found_is result ≡ newer_than tick (rows_of (reel_of counts rows.now inputs formers)) }
@@ -104,27 +105,17 @@ fn closed_by_refusal(standing: Standing) -> bool
 pub fn seek(reader: TeamReader, counts: Counts, rows: &[i32; 5120], tick: i32) -> Sought
     ensures { (inputs formers : List ℤ) → result ≡ sought_in reader (reel_of counts rows.now inputs formers) tick }
 {
-    seek_lent(&reader, counts, rows, tick)
-}
-
-// The same for a reader that is lent.
-fn seek_lent(reader: &TeamReader, counts: Counts, rows: &[i32; 5120], tick: i32) -> Sought
-    ensures { (inputs formers : List ℤ) → result ≡ sought_in reader.now (reel_of counts rows.now inputs formers) tick }
-{
-    let scalars = reader.reader.scalars;
+    let teams = reader.teams;
+    let plain = reader.reader;
+    let scalars = plain.scalars;
+    let entries = plain.entries;
     if !good::both(
         good::both(
             good::both(
                 good_reader::good_scalars(scalars),
-                good::good_lent(
-                    &reader.reader.entries.marks,
-                    &reader.reader.entries.xs,
-                    &reader.reader.entries.ys,
-                    &reader.reader.entries.held,
-                    &reader.reader.entries.inputs,
-                ),
+                good::good_entries(entries),
             ),
-            teams::good_teams(&reader.teams),
+            teams::good_teams(&teams),
         ),
         reel::good_counts(counts),
     ) {
@@ -324,7 +315,7 @@ pub fn rewind_lent(
 ) -> Rewound
     ensures { result ≡ rewound_of (rewind_to reader (reel_of counts rows.now inputs.now formers.now) tick) }
 {
-    match seek_lent(&reader, counts, rows, tick) {
+    match seek(reader, counts, rows, tick) {
         Sought::Newer(n) => over_newest(
             back::team_board_of(reader),
             n,

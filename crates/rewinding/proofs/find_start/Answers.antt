@@ -14,9 +14,6 @@ loop-n-init c =
     let t : Same a.tick = search rules in
     (omega arith, (c.requires.0, λ inputs formers. rw t (none_yet a.tick (reel_of a.counts a.rows.now inputs formers))))
 
-pub is_start-requires : goal.is_start-requires
-is_start-requires c = rw c.place_before-place.ensures (before_below _ c.loop-n.invariant.1.0)
-
 pub returns-then-is_start : goal.returns-then-is_start
 returns-then-is_start c =
     let a = c.args in
