@@ -1,8 +1,6 @@
 -- Whether two readers or two boards are the same; readers made of bytes.
-use Rattle.std.specs.Prelude.{ℕ, ◌+◌, ◌*◌, ◌-◌, Bool, true, false, cond, not, ◌&&◌, List, get_or, length, set, eqb, ltb, ℤ, pos}
+use Rattle.std.specs.Prelude.{ℕ, ◌+◌, ◌*◌, ◌-◌, Bool, true, false, cond, not, ◌&&◌, List, get_or, length, set, eqb, ltb, ℤ, pos, Option, Some, None}
 use Rattle.kinds.specs.Kinds.{kind_number}
-use Rattle.kinds.specs.declared.Cid.{Cid}
-use Rattle.kinds.specs.declared.Cid.TheVariants as cids
 use Rattle.kinds.specs.declared.Kind.{Kind}
 use Rattle.kinds.specs.declared.Kind.TheVariants as kinds
 use Rattle.kinds.specs.declared.Version.{Version}
@@ -11,13 +9,9 @@ use Rattle.packer.specs.Parts.{part, shown}
 use Rattle.cases.specs.Cases.{number_of}
 use Rattle.state.specs.State.{same_int, every, entries_with, with_player, no_entries}
 use Rattle.state.specs.declared.Reader.{Reader}
-use Rattle.state.specs.declared.Pending.{Pending}
-use Rattle.state.specs.declared.Pending.TheVariants as pendings
 use Rattle.state.specs.declared.Standing.{Standing}
 use Rattle.state.specs.declared.Standing.TheVariants as standings
 use Rattle.state.specs.declared.Scalars.{Scalars}
-use Rattle.back.specs.declared.BoardTick.{BoardTick}
-use Rattle.back.specs.declared.BoardTick.TheVariants as ticks
 use Rattle.state.specs.declared.Entries.{Entries}
 
 abbrev pub same_mark : List ℕ → List ℕ → ℕ → Bool
@@ -48,11 +42,11 @@ standing_number standings.Open = 0
 standing_number standings.Finished = 1
 standing_number standings.Refused = 2
 
-abbrev pub same_cid : Cid → Cid → Bool
-same_cid (cids.Of c) (cids.Of d) = same_int c d
-same_cid (cids.Of c) cids.NoCid = false
-same_cid cids.NoCid (cids.Of d) = false
-same_cid cids.NoCid cids.NoCid = true
+abbrev pub same_cid : Option ℤ → Option ℤ → Bool
+same_cid (Some c) (Some d) = same_int c d
+same_cid (Some c) None = false
+same_cid None (Some d) = false
+same_cid None None = true
 
 -- the client of PlayerNew and PlayerOld; that of PlayerDiff is its number
 abbrev pub client_of : Kind → ℤ
@@ -70,15 +64,15 @@ client_of kinds.ConsoleCommand = pos 0
 client_of kinds.Ex = pos 0
 
 -- the number of a pending kind, as a client that may be missing
-abbrev pub pending_number : Pending → Cid
-pending_number (pendings.Is k) = cids.Of (kind_number k)
-pending_number pendings.NoKind = cids.NoCid
+abbrev pub pending_number : Option Kind → Option ℤ
+pending_number (Some k) = Some (kind_number k)
+pending_number None = None
 
-abbrev pub pending_client : Pending → ℤ
-pending_client (pendings.Is k) = client_of k
-pending_client pendings.NoKind = pos 0
+abbrev pub pending_client : Option Kind → ℤ
+pending_client (Some k) = client_of k
+pending_client None = pos 0
 
-abbrev pub same_pending : Pending → Pending → Bool
+abbrev pub same_pending : Option Kind → Option Kind → Bool
 same_pending a b = same_cid (pending_number a) (pending_number b) && same_int (pending_client a) (pending_client b)
 
 abbrev pub same_places : Scalars → Scalars → Bool
@@ -96,9 +90,9 @@ abbrev pub same_scalars : Scalars → Scalars → Bool
 same_scalars a b = same_places a b && (same_flags a b && same_kinds a b)
 
 -- the started tick, as a client that may be missing
-abbrev pub board_tick : BoardTick → Cid
-board_tick (ticks.In t) = cids.Of t
-board_tick ticks.NoTick = cids.NoCid
+abbrev pub board_tick : Option ℤ → Option ℤ
+board_tick (Some t) = Some t
+board_tick None = None
 
 -- ---- a reader made of bytes; a number is 100 less than its byte
 
@@ -108,10 +102,10 @@ version_in b = cond (eqb b 1) versions.V1 versions.V2
 abbrev pub standing_in : ℕ → Standing
 standing_in b = cond (eqb b 1) standings.Finished (cond (eqb b 2) standings.Refused standings.Open)
 
-abbrev pub pending_of : ℕ → ℤ → Pending
+abbrev pub pending_of : ℕ → ℤ → Option Kind
 pending_of b cid =
-    cond (eqb b 1) (pendings.Is (kinds.PlayerDiff cid))
-    (cond (eqb b 2) (pendings.Is (kinds.PlayerNew cid)) (cond (eqb b 3) (pendings.Is kinds.Ex) pendings.NoKind))
+    cond (eqb b 1) (Some (kinds.PlayerDiff cid))
+    (cond (eqb b 2) (Some (kinds.PlayerNew cid)) (cond (eqb b 3) (Some kinds.Ex) None))
 
 unfoldable pub scalars_in : List ℕ → Scalars
 scalars_in s =
@@ -119,7 +113,7 @@ scalars_in s =
       version = version_in (get_or s 0 0);
       tick = number_of (get_or s 1 0);
       inside = eqb (get_or s 6 0) 1;
-      remembered = cids.NoCid;
+      remembered = None;
       largest = number_of (get_or s 2 0);
       pending = pending_of (get_or s 3 0) (number_of (get_or s 4 0));
       standing = standing_in (get_or s 5 0);

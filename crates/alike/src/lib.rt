@@ -33,9 +33,9 @@ ghost use Rattle.alike.specs.Alike.{
   reader_in,
 };
 
-use back::{Board, BoardTick};
-use kinds::{Cid, Kind, Version};
-use state::{Entries, Pending, Reader, Scalars, Standing};
+use back::Board;
+use kinds::{Kind, Version};
+use state::{Entries, Reader, Scalars, Standing};
 
 fn same_mark(a: u8, b: u8) -> bool
     ensures { result ≡ eqb a b }
@@ -141,17 +141,17 @@ fn same_standing(a: Standing, b: Standing) -> bool
     same_mark(standing_number(a), standing_number(b))
 }
 
-fn same_cid(a: Cid, b: Cid) -> bool
+fn same_cid(a: Option<i32>, b: Option<i32>) -> bool
     ensures { result ≡ same_cid a b }
 {
     match a {
-        Cid::Of(c) => match b {
-            Cid::Of(d) => same_number(c, d),
-            Cid::NoCid => false,
+        Some(c) => match b {
+            Some(d) => same_number(c, d),
+            None => false,
         },
-        Cid::NoCid => match b {
-            Cid::Of(_) => false,
-            Cid::NoCid => true,
+        None => match b {
+            Some(_) => false,
+            None => true,
         },
     }
 }
@@ -177,25 +177,25 @@ fn client_of(kind: Kind) -> i32
 }
 
 // The pending kind's number, as a client that may be missing.
-fn pending_number(pending: Pending) -> Cid
+fn pending_number(pending: Option<Kind>) -> Option<i32>
     ensures { result ≡ pending_number pending }
 {
     match pending {
-        Pending::Is(kind) => Cid::Of(kind.number()),
-        Pending::NoKind => Cid::NoCid,
+        Some(kind) => Some(kind.number()),
+        None => None,
     }
 }
 
-fn pending_client(pending: Pending) -> i32
+fn pending_client(pending: Option<Kind>) -> i32
     ensures { result ≡ pending_client pending }
 {
     match pending {
-        Pending::Is(kind) => client_of(kind),
-        Pending::NoKind => 0,
+        Some(kind) => client_of(kind),
+        None => 0,
     }
 }
 
-fn same_pending(a: Pending, b: Pending) -> bool
+fn same_pending(a: Option<Kind>, b: Option<Kind>) -> bool
     ensures { result ≡ same_pending a b }
 {
     good::both(
@@ -256,12 +256,12 @@ pub fn same_reader(a: Reader, b: Reader) -> bool
     good::both(same_scalars(s, t), same_entries(e, f))
 }
 
-fn tick_of(tick: BoardTick) -> Cid
+fn tick_of(tick: Option<i32>) -> Option<i32>
     ensures { result ≡ board_tick tick }
 {
     match tick {
-        BoardTick::In(t) => Cid::Of(t),
-        BoardTick::NoTick => Cid::NoCid,
+        Some(t) => Some(t),
+        None => None,
     }
 }
 
@@ -298,19 +298,19 @@ fn standing_in(b: u8) -> Standing
 }
 
 // 1 a PlayerDiff, 2 a PlayerNew, 3 an extension, else none.
-fn pending_of(b: u8, cid: i32) -> Pending
+fn pending_of(b: u8, cid: i32) -> Option<Kind>
     ensures { result ≡ pending_of b cid }
 {
     if b == 1 {
-        return Pending::Is(Kind::PlayerDiff(cid));
+        return Some(Kind::PlayerDiff(cid));
     }
     if b == 2 {
-        return Pending::Is(Kind::PlayerNew(cid));
+        return Some(Kind::PlayerNew(cid));
     }
     if b == 3 {
-        return Pending::Is(Kind::Ex);
+        return Some(Kind::Ex);
     }
-    Pending::NoKind
+    None
 }
 
 // A version, a tick, a largest client, a pending kind and its client, open or closed by which, inside a tick or not.
@@ -321,7 +321,7 @@ fn scalars_in(s: &[u8]) -> Scalars
         version: version_in(cases::byte(s, 0)),
         tick: cases::number(s, 1),
         inside: same_mark(cases::byte(s, 6), 1),
-        remembered: Cid::NoCid,
+        remembered: None,
         largest: cases::number(s, 2),
         pending: pending_of(cases::byte(s, 3), cases::number(s, 4)),
         standing: standing_in(cases::byte(s, 5)),

@@ -1,4 +1,5 @@
 -- A record that is no command has nothing beside it: it is whole without arguments. Assumes nothing.
+use Rattle.std.specs.Prelude.{Option, Some, None}
 use Prim.Native.Nat.{ℕ, suc}
 use mathlib.Core.Path.{◌≡◌, refl, sym, ap}
 use mathlib.Core.Bool.{true, false}
@@ -16,8 +17,6 @@ use Rattle.fields.specs.Fields.{Field, int, str, blob, Value, bytes, Reading, go
 use Rattle.fields.specs.steps.Sorts.{push, and_then}
 use Rattle.extensions.specs.Extensions.{Payload, shaped, all_data, payload_at, find}
 use Rattle.extensions.specs.declared.Extension.{Extension}
-use Rattle.extensions.specs.declared.Found.{Found}
-use Rattle.extensions.specs.declared.Found.TheVariants.{Known, Unknown}
 use Rattle.item.specs.Records.{Content, content, as_content, of_payload, of_found, read_ex, read_rest}
 use Rattle.item.specs.steps.Reading.{up_to, after_data, after_id}
 use Rattle.item.specs.Contents.{with_beside, no_args}
@@ -83,9 +82,9 @@ module _ (w : List ℕ) where
       whole_up next (as_content (Named k) x) (whole_as (Named k) x refl (rw e (counted fs (take next w) p.at)))
   whole_payload p k all_data next e = whole_values (Named k) (bytes p ∷ []) refl (rw e)
 
-  whole_found : (id p : Part) (f : Found) (next : ℕ) → Whole (of_found w id p f next)
-  whole_found id p (Known k) next = whole_payload p k (payload_at k) next refl
-  whole_found id p Unknown next = refl
+  whole_found : (id p : Part) (f : Option Extension) (next : ℕ) → Whole (of_found w id p f next)
+  whole_found id p (Some k) next = whole_payload p k (payload_at k) next refl
+  whole_found id p None next = refl
 
   whole_data : (id : Part) (x : DataRead) → Whole (after_data w id x)
   whole_data id (blobs.Got p next) = whole_found id p (find (shown w id)) next

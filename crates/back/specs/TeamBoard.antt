@@ -1,11 +1,10 @@
 -- The board with teams, and stepping back over an event there: positions and inputs as without teams, and above them a client's team.
 -- docs/FORMAT.md, "Stepping back".
-use Rattle.std.specs.Prelude.{Bool, true, cond, ◌&&◌, List, ltb, ℤ, pos, negsuc}
+use Rattle.std.specs.Prelude.{Bool, true, cond, ◌&&◌, List, ltb, ℤ, pos, negsuc, Option}
 use Rattle.refusal.specs.declared.Refusal.{Refusal}
 use Rattle.refusal.specs.declared.Refusal.TheVariants.{BadState, NotLast}
 use Rattle.state.specs.Reading.{Event}
 use Rattle.teams.specs.Teams.{is_in, put_team, good_teams, Joining, joins, nobody, joining_of}
-use Rattle.teams.specs.declared.Team.{Team}
 use Rattle.teams.specs.declared.TeamReader.{TeamReader}
 use Rattle.back.specs.Board.{board_of, good_board}
 use Rattle.back.specs.Back.{Back, take_off}
@@ -42,19 +41,19 @@ fits_teams (joins (negsuc c) n) t = true
 fits_teams nobody t = true
 
 -- and the former team returns
-abbrev pub teams_before : Joining → Team → List ℤ → List ℤ
+abbrev pub teams_before : Joining → Option ℤ → List ℤ → List ℤ
 teams_before (joins c n) m t = put_team t c m
 teams_before nobody m t = t
 
 -- any event, with its ten numbers and the former ten, and the former team, taken off a board
-unfoldable pub take_off_team : Event → List ℤ → List ℤ → Team → TeamBoard → TeamBack
+unfoldable pub take_off_team : Event → List ℤ → List ℤ → Option ℤ → TeamBoard → TeamBack
 take_off_team e ten former m b =
     cond (fits_teams (joining_of e) b.teams)
     (beside (teams_before (joining_of e) m b.teams) (take_off e ten former b.board.tick b.board.entries))
     (refused NotLast)
 
 -- 17, then 19
-unfoldable pub team_step_back : TeamBoard → Event → List ℤ → List ℤ → Team → TeamBack
+unfoldable pub team_step_back : TeamBoard → Event → List ℤ → List ℤ → Option ℤ → TeamBack
 team_step_back b e ten former m = cond (good_team_board b) (take_off_team e ten former m b) (refused BadState)
 
 -- what the call hands back: in a refusal, the board that was given

@@ -1,6 +1,6 @@
 -- What a step back has to know of an event. Of a record that changes no entry that is nothing; the ten numbers of an input and the former
 -- ten stand beside it, and so does the former team of a PlayerTeam.
-use Rattle.std.specs.Prelude.{[], ◌∷◌, ℤ}
+use Rattle.std.specs.Prelude.{[], ◌∷◌, ℤ, Option, None}
 use Rattle.packer.specs.declared.Part.{Part}
 use Rattle.fields.specs.Fields.{num}
 use Rattle.extensions.specs.declared.Extension.TheVariants.{PlayerTeam}
@@ -17,15 +17,13 @@ use Rattle.state.specs.Reading.{
   other,
 }
 use Rattle.teams.specs.Teams.{Joining, on_joining, joining_in}
-use Rattle.teams.specs.declared.Team as teams
-use Rattle.teams.specs.declared.Team.TheVariants.{NoTeam}
 use Rattle.back.specs.declared.Undo.{Undo}
 use Rattle.back.specs.declared.Undo.TheVariants.{Start, End, New, Change, Old, Input, Team, Nothing}
 
-abbrev pub undo_joining : Joining → teams.Team → Undo
+abbrev pub undo_joining : Joining → Option ℤ → Undo
 undo_joining j m = on_joining (λ c n. Team c n m) Nothing j
 
-abbrev pub undo_of : Event → teams.Team → Undo
+abbrev pub undo_of : Event → Option ℤ → Undo
 undo_of (tick_start t) m = Start t
 undo_of (tick_end t) m = End t
 undo_of (player_new c x y) m = New c x y
@@ -50,12 +48,12 @@ undone (Team c n m) = other (player_team c n)
 undone Nothing = other (content tags.Other [])
 
 -- the former team beside it
-abbrev pub former_in : Undo → teams.Team
-former_in (Start t) = NoTeam
-former_in (End t) = NoTeam
-former_in (New c x y) = NoTeam
-former_in (Change c x y old-x old-y) = NoTeam
-former_in (Old c x y) = NoTeam
-former_in (Input c had) = NoTeam
+abbrev pub former_in : Undo → Option ℤ
+former_in (Start t) = None
+former_in (End t) = None
+former_in (New c x y) = None
+former_in (Change c x y old-x old-y) = None
+former_in (Old c x y) = None
+former_in (Input c had) = None
 former_in (Team c n m) = m
-former_in Nothing = NoTeam
+former_in Nothing = None

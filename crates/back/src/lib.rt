@@ -10,21 +10,14 @@ ghost use Rattle.back.specs.TeamBoard.{team_board_of};
 ghost use Rattle.back.specs.Undo.{undo_of, undo_joining};
 ghost use Rattle.teams.specs.steps.Joinings.{joining_is};
 
-use lookups::{InputOf, Pos};
+use lookups::Pos;
 use refusal::Refusal;
 use state::{Entries, Event, Reader};
-use teams::{Joining, Team, TeamReader};
-
-// The tick that was started, or none.
-#[derive(Clone, Copy)]
-pub enum BoardTick {
-    In(i32),
-    NoTick,
-}
+use teams::{PlayerTeam, TeamReader};
 
 #[derive(Clone, Copy)]
 pub struct Board {
-    pub tick: BoardTick,
+    pub tick: Option<i32>,
     pub entries: Entries,
 }
 
@@ -78,7 +71,7 @@ pub enum Undo {
     Team {
         cid: i32,
         team: i32,
-        former: Team,
+        former: Option<i32>,
     },
     Nothing,
 }
@@ -92,12 +85,12 @@ pub fn board_of(reader: Reader) -> Board
     let tick = scalars.tick;
     if scalars.inside {
         return Board {
-            tick: BoardTick::In(tick),
+            tick: Some(tick),
             entries,
         };
     }
     Board {
-        tick: BoardTick::NoTick,
+        tick: None,
         entries,
     }
 }
@@ -114,7 +107,7 @@ pub fn team_board_of(reader: TeamReader) -> TeamBoard
 }
 
 // The position of a client, or none.
-pub fn player_pos(board: Board, cid: i32) -> Pos
+pub fn player_pos(board: Board, cid: i32) -> Option<Pos>
     ensures { result ≡ pos_of board.entries cid }
 {
     let entries = board.entries;
@@ -122,7 +115,7 @@ pub fn player_pos(board: Board, cid: i32) -> Pos
 }
 
 // The ten input numbers of a client, or none.
-pub fn input(board: Board, cid: i32) -> InputOf
+pub fn input(board: Board, cid: i32) -> Option<[i32; 10]>
     ensures { result ≡ input_for board.entries cid }
 {
     let entries = board.entries;
@@ -130,7 +123,7 @@ pub fn input(board: Board, cid: i32) -> InputOf
 }
 
 // The team of a client, or none.
-pub fn team(board: TeamBoard, cid: i32) -> Team
+pub fn team(board: TeamBoard, cid: i32) -> Option<i32>
     ensures { result ≡ team_of board.teams cid }
 {
     let teams = board.teams;
@@ -138,17 +131,17 @@ pub fn team(board: TeamBoard, cid: i32) -> Team
 }
 
 // What a step back over a record has to know of it.
-fn undo_record(joining: Joining, former: Team) -> Undo
+fn undo_record(joining: Option<PlayerTeam>, former: Option<i32>) -> Undo
     ensures { result ≡ undo_joining (joining_is joining) former }
 {
     match joining {
-        Joining::Joins { cid, team } => Undo::Team { cid, team, former },
-        Joining::Nobody => Undo::Nothing,
+        Some(PlayerTeam { cid, team }) => Undo::Team { cid, team, former },
+        None => Undo::Nothing,
     }
 }
 
 // What a step back over the event has to know of it; of a PlayerTeam the former team stands beside it, of another event it is not looked at.
-pub fn undo_of(event: Event, team: Team) -> Undo
+pub fn undo_of(event: Event, team: Option<i32>) -> Undo
     ensures { result ≡ undo_of (event_is event) team }
 {
     match event {

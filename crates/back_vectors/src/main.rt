@@ -9,11 +9,10 @@
 // team_alike::teams_in takes them, or none. A number is 100 more than it stands for.
 #![tactic(auto)]
 
-use back::{BackAnswer, Board, BoardTick, TeamBoard};
+use back::{BackAnswer, Board, TeamBoard};
 use item::Item;
 use kinds::Version;
 use state::{Entries, Event, Reader};
-use teams::Team;
 use texts::Text;
 
 const STDOUT_FILENO: i32 = 1;
@@ -73,18 +72,18 @@ fn event_in(s: &[u8]) -> Event {
 }
 
 // The former team beside the event.
-fn former_in(s: &[u8]) -> Team {
+fn former_in(s: &[u8]) -> Option<i32> {
     if cases::byte(s, 0) == 8 {
-        return Team::Number(cases::number(s, 6));
+        return Some(cases::number(s, 6));
     }
-    Team::NoTeam
+    None
 }
 
-fn tick_in(s: &[u8]) -> BoardTick {
+fn tick_in(s: &[u8]) -> Option<i32> {
     if cases::byte(s, 1) == 1 {
-        return BoardTick::In(cases::number(s, 2));
+        return Some(cases::number(s, 2));
     }
-    BoardTick::NoTick
+    None
 }
 
 const TEN: [i32; 10] = [1, 2, 3, 4, 5, 6, 7, 8, 9, 10];
@@ -127,10 +126,10 @@ fn ten_in(s: &[u8]) -> [i32; 10] {
 
 // ---- stepping back
 
-fn tick_numbers(tick: BoardTick) -> [i32; 2] {
+fn tick_numbers(tick: Option<i32>) -> [i32; 2] {
     match tick {
-        BoardTick::In(t) => [1, t],
-        BoardTick::NoTick => [0, 0],
+        Some(t) => [1, t],
+        None => [0, 0],
     }
 }
 
@@ -164,7 +163,7 @@ fn say_whole(board: TeamBoard, of_team: bool) {
     say_team(teams, of_team);
 }
 
-fn step(board: TeamBoard, event: Event, input: [i32; 10], team: Team, of_team: bool) {
+fn step(board: TeamBoard, event: Event, input: [i32; 10], team: Option<i32>, of_team: bool) {
     let stepped = stepping::step_back(board, event, input, [11; 10], team);
     let answer = stepped.answer;
     let before = stepped.board;

@@ -1,4 +1,5 @@
 -- Lines of the clients that pass a test, put one behind the other. Assumes nothing.
+use Rattle.std.specs.Prelude.{Option, Some, None}
 use Prim.Native.Nat.{ℕ, zero, suc, ◌+◌, ◌*◌, ◌≤◌, ◌<◌}
 use mathlib.Core.Path.{◌≡◌, refl, ap, ◌∙◌}
 use mathlib.Core.Bool.{Bool, true, false, cond, ◌&&◌}
@@ -13,8 +14,6 @@ use Rattle.packer.proofs.Joined.{two_puts, nothing_put}
 use Rattle.state.specs.State.{x_of, y_of, ten_of}
 use Rattle.state.specs.declared.Entries.{Entries}
 use Rattle.teams.specs.Teams.{has_team, number_of, team_of}
-use Rattle.teams.specs.declared.Team.{Team}
-use Rattle.teams.specs.declared.Team.TheVariants.{Number, NoTeam}
 use Rattle.lines.specs.Lines.{plain_line}
 use Rattle.lines.specs.steps.Puts.{PutsText}
 use Rattle.lines.proofs.Texts.{end_le}
@@ -54,15 +53,15 @@ module _ (mark : ℕ) (xs : List ℕ) (at : ℕ) (line : List ℕ) where
 -- ---- the line of a team that was looked up
 
 module _ (c : ℕ) where
-  abbrev pub line_for : Team → List ℕ
-  line_for (Number n) = plain_line team_word (pos c ∷ n ∷ [])
-  line_for NoTeam = []
+  abbrev pub line_for : Option ℤ → List ℕ
+  line_for (Some n) = plain_line team_word (pos c ∷ n ∷ [])
+  line_for None = []
 
-  line_by_law : (b : Bool) (n : ℤ) → line_for (cond b (Number n) NoTeam) ≡ cond b (plain_line team_word (pos c ∷ n ∷ [])) []
+  line_by_law : (b : Bool) (n : ℤ) → line_for (cond b (Some n) None) ≡ cond b (plain_line team_word (pos c ∷ n ∷ [])) []
   line_by_law true n = refl
   line_by_law false n = refl
 
-  pub line_for_law : (t : List ℤ) (m : Team) → m ≡ team_of t (pos c) → line_for m ≡ cond (has_team t c) (team_line t c) []
+  pub line_for_law : (t : List ℤ) (m : Option ℤ) → m ≡ team_of t (pos c) → line_for m ≡ cond (has_team t c) (team_line t c) []
   line_for_law t m e = ap line_for e ∙ line_by_law (has_team t c) (number_of t c)
 
 -- ---- lines of clients

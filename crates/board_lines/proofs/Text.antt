@@ -1,4 +1,5 @@
 -- The whole text of a board: how long it is, and from which parts it is put. Assumes nothing.
+use Rattle.std.specs.Prelude.{Option, Some, None}
 use Prim.Native.Nat.{ℕ, ◌+◌, ◌*◌, ◌≤◌}
 use mathlib.Core.Path.{◌≡◌}
 use mathlib.Core.List.{List, [], ◌∷◌, ◌++◌}
@@ -10,8 +11,6 @@ use Rattle.packer.proofs.Joined.{first_fits, next_fits, two_puts}
 use Rattle.state.specs.State.{present, holds}
 use Rattle.state.specs.declared.Entries.{Entries}
 use Rattle.teams.specs.Teams.{has_team}
-use Rattle.back.specs.declared.BoardTick.{BoardTick}
-use Rattle.back.specs.declared.BoardTick.TheVariants.{In, NoTick}
 use Rattle.back.specs.declared.TeamBoard.{TeamBoard}
 use Rattle.lines.specs.Lines.{longest}
 use Rattle.lines.specs.steps.Puts.{PutsText}
@@ -35,9 +34,9 @@ teams m = lines_below 128 (has_team m) (team_line m)
 abbrev rest : Entries → List ℤ → List ℕ
 rest e m = players e ++ (inputs e ++ teams m)
 
-tick_le : (t : BoardTick) → length (tick_line t) ≤ 18
-tick_le (In t) = omega (arith, end_le (t ∷ []))
-tick_le NoTick = omega arith
+tick_le : (t : Option ℤ) → length (tick_line t) ≤ 18
+tick_le (Some t) = omega (arith, end_le (t ∷ []))
+tick_le None = omega arith
 
 players_le : (e : Entries) → length (players e) ≤ 5504
 players_le e = lines_le 43 (present e) (player_line e) (player_le e) 128
@@ -55,7 +54,7 @@ board_le b =
     rw (length-append, length-append, length-append)
     (omega (arith, tick_le b.board.tick, players_le b.board.entries, inputs_le b.board.entries, teams_le b.teams))
 
-module _ (t : BoardTick) (e : Entries) (m : List ℤ) (xs : List ℕ) (at : ℕ) (room : at + longest_board ≤ length xs) where
+module _ (t : Option ℤ) (e : Entries) (m : List ℤ) (xs : List ℕ) (at : ℕ) (room : at + longest_board ≤ length xs) where
   whole : at + length (tick_line t ++ rest e m) ≤ length xs
   whole =
       omega

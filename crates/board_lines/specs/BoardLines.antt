@@ -1,10 +1,8 @@
 -- The lines of a board that was rewound. docs/FORMAT.md, "The rewind program".
-use Rattle.std.specs.Prelude.{ℕ, zero, suc, Bool, cond, List, [], ◌∷◌, ◌++◌, ℤ, pos}
+use Rattle.std.specs.Prelude.{ℕ, zero, suc, Bool, cond, List, [], ◌∷◌, ◌++◌, ℤ, pos, Option, Some, None}
 use Rattle.state.specs.State.{present, x_of, y_of, holds, ten_of}
 use Rattle.state.specs.declared.Entries.{Entries}
 use Rattle.teams.specs.Teams.{has_team, number_of}
-use Rattle.back.specs.declared.BoardTick.{BoardTick}
-use Rattle.back.specs.declared.BoardTick.TheVariants.{In, NoTick}
 use Rattle.back.specs.declared.TeamBoard.{TeamBoard}
 use Rattle.lines.specs.Lines.{text, plain_line, input_word, last_line}
 use Rattle.lines.specs.declared.Ending.TheVariants as endings
@@ -23,9 +21,9 @@ abbrev pub team_word : List ℕ
 team_word = text "team"
 
 -- `board t`, or `board -` outside a tick
-abbrev pub tick_line : BoardTick → List ℕ
-tick_line (In t) = plain_line board_word (t ∷ [])
-tick_line NoTick = text "board -\n"
+abbrev pub tick_line : Option ℤ → List ℕ
+tick_line (Some t) = plain_line board_word (t ∷ [])
+tick_line None = text "board -\n"
 
 -- `player c x y`
 abbrev pub player_line : Entries → ℕ → List ℕ

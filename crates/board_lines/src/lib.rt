@@ -20,21 +20,19 @@ ghost use Rattle.board_lines.specs.BoardLines.{
   longest_board,
 };
 
-use back::{BoardTick, TeamBoard};
+use back::TeamBoard;
 use going::GoAnswer;
 use lines::Ending;
 use refusal::Refusal;
 use rewinding::{RewindAnswer, Rewound};
-use teams::Team;
-use varint::Wrote;
 
-fn put_tick(tick: BoardTick, out: &mut [u8], at: usize) -> usize
+fn put_tick(tick: Option<i32>, out: &mut [u8], at: usize) -> usize
     requires { at + 18 ≤ length out.old }
     ensures { PutsText out.old at (tick_line tick) result out.new }
 {
     match tick {
-        BoardTick::In(t) => row_lines::past_or(lines::write_plain(b"board", &[t], out, at), at),
-        BoardTick::NoTick => row_lines::past_or(text_writer::write_raw(b"board -\n", out, at), at),
+        Some(t) => row_lines::past_or(lines::write_plain(b"board", &[t], out, at), at),
+        None => row_lines::past_or(text_writer::write_raw(b"board -\n", out, at), at),
     }
 }
 
@@ -104,7 +102,7 @@ fn put_team(c: usize, teams: &[i32; 256], out: &mut [u8], at: usize) -> usize
     ensures { PutsText out.old at (cond (has_team teams.now c) (team_line teams.now c) []) result out.new }
 {
     let client = c as i32;
-    let Team::Number(n) = teams::team_of(teams, client) else {
+    let Some(n) = teams::team_of(teams, client) else {
         return at;
     };
     row_lines::past_or(lines::write_plain(b"team", &[client, n], out, at), at)
@@ -188,25 +186,30 @@ fn has_longest(len: usize, at: usize) -> bool
 }
 
 // The text of a rewind's answer. Refused 9, with nothing changed, where the longest text wouldn't fit.
-pub fn write_rewound(rewound: Rewound, out: &mut [u8], at: usize) -> Wrote
+pub fn write_rewound(rewound: Rewound, out: &mut [u8], at: usize) -> Result<usize, Refusal>
     ensures answer { result ≡ text_answer longest_board out.old at (rewound_text rewound.answer rewound.board) }
     ensures target { out.new ≡ text_target longest_board out.old at (rewound_text rewound.answer rewound.board) }
 {
     let answer = rewound.answer;
     let board = rewound.board;
     if has_longest(out.len(), at) {
-        return Wrote::Past(put_rewound(answer, board, out, at));
+        return Ok(put_rewound(answer, board, out, at));
     }
-    Wrote::Refused(Refusal::ShortTarget)
+    Err(Refusal::ShortTarget)
 }
 
 // The text of a call that goes on with a rewind: its copy, in a refusal too, and how it stands. Refused 9 as above.
-pub fn write_gone(answer: GoAnswer, board: TeamBoard, out: &mut [u8], at: usize) -> Wrote
+pub fn write_gone(
+    answer: GoAnswer,
+    board: TeamBoard,
+    out: &mut [u8],
+    at: usize,
+) -> Result<usize, Refusal>
     ensures answer { result ≡ text_answer longest_board out.old at (gone_text answer board) }
     ensures target { out.new ≡ text_target longest_board out.old at (gone_text answer board) }
 {
     if has_longest(out.len(), at) {
-        return Wrote::Past(put_gone(answer, board, out, at));
+        return Ok(put_gone(answer, board, out, at));
     }
-    Wrote::Refused(Refusal::ShortTarget)
+    Err(Refusal::ShortTarget)
 }

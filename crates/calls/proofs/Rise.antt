@@ -1,4 +1,5 @@
 -- Ticks never fall, and who has inputs keeps having inputs: a clause for each act, then any list of calls. Assumes nothing.
+use Rattle.std.specs.Prelude.{Some, None}
 use Prim.Native.Nat.{ℕ, zero, suc, ◌+◌}
 use mathlib.Core.Path.{◌≡◌, refl}
 use mathlib.Core.Bool.{Bool, true, false, cond, ◌&&◌}
@@ -17,7 +18,6 @@ use Rattle.state.specs.Acts as act
 use Rattle.state.specs.declared.Entries.{Entries}
 use Rattle.state.specs.declared.Scalars.{Scalars}
 use Rattle.state.specs.declared.Reader.{Reader}
-use Rattle.state.specs.declared.Next.TheVariants.{Tick, Past}
 use Rattle.state.proofs.Theorems.{read_calls_are_acts}
 use Rattle.calls.specs.Calls.{Call, next, after}
 use Rattle.fields.proofs.Answers.{and_split, and_both}
@@ -46,13 +46,13 @@ module _ (Q : Reader → Type 0) (keeps : ByActs Q) where
 
 -- ---- ticks
 
-tick_is : (b : Bool) (x y : ℤ) → cond b Past (Tick x) ≡ Tick y → y ≡ x
+tick_is : (b : Bool) (x y : ℤ) → cond b None (Some x) ≡ Some y → y ≡ x
 tick_is true x y e = absurd (let z : ◌≡◌ {A = ℕ} 0 1 = cc in omega arith)
 tick_is false x y e = cc
 
 -- k + 1 ticks on, from a tick that isn't negative
 module _ (P : ℤ → ℤ → Type 0) (on : (n k : ℕ) → P (pos n) (pos (n + k + 1))) where
-  next_is_law : (a b : ℤ) (k : ℕ) → next_tick a k ≡ Tick b → P a b
+  next_is_law : (a b : ℤ) (k : ℕ) → next_tick a k ≡ Some b → P a b
   unfolding next_tick
   next_is_law (pos n) b k e = rw (tick_is (ltb 2147483647 (n + k + 1)) (pos (n + k + 1)) b e) (on n k)
   next_is_law (negsuc n) b k e = absurd (let z : ◌≡◌ {A = ℕ} 0 1 = cc in omega arith)
@@ -65,7 +65,7 @@ pub above : (t : ℤ) (n k : ℕ) → lt_z t (pos n) ≡ true → lt_z t (pos (n
 above (pos m) n k h = lt-ltb m (n + k + 1) (omega (arith, ltb-true m n h))
 above (negsuc m) n k h = refl
 
-pub rises : (a b : ℤ) (k : ℕ) → next_tick a k ≡ Tick b → lt_z a b ≡ true
+pub rises : (a b : ℤ) (k : ℕ) → next_tick a k ≡ Some b → lt_z a b ≡ true
 rises = next_is_law (λ a b. lt_z a b ≡ true) (λ n k. lt-ltb n (n + k + 1) (omega arith))
 
 pub irrefl : (a : ℤ) → lt_z a a ≡ false
@@ -73,7 +73,7 @@ irrefl (pos n) = le-ltb n n (omega arith)
 irrefl (negsuc n) = le-ltb n n (omega arith)
 
 module _ (P : ℤ → Type 0) (on : (n k : ℕ) → P (pos n) → P (pos (n + k + 1))) where
-  goes : (a b : ℤ) (k : ℕ) → next_tick a k ≡ Tick b → P a → P b
+  goes : (a b : ℤ) (k : ℕ) → next_tick a k ≡ Some b → P a → P b
   goes = next_is_law (λ a b. P a → P b) on
 
   pub act_ticks : {s : Scalars} {e : Entries} {w : List ℕ} {last : Bool} {f : Memory → Step} (m : Memory) → Act s e w last f → P s.tick

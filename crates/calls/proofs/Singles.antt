@@ -1,4 +1,5 @@
 -- One reading call: what it uses, what more leaves, and that a longer window changes no other answer. Assumes nothing.
+use Rattle.std.specs.Prelude.{Option, Some, None}
 use Prim.Native.Nat.{ℕ, ◌≤◌, zero-le}
 use mathlib.Core.Path.{◌≡◌, refl, sym, ap, ◌∙◌}
 use mathlib.Core.Bool.{Bool, false, false≢true}
@@ -19,8 +20,6 @@ use Rattle.state.specs.Laws.{SaidLeaves, used_in}
 use Rattle.state.specs.Acts.{HadKind, Had, WhyPlain, WhyPlayer, WhyInput, Act, ReadAct}
 use Rattle.state.specs.Acts as act
 use Rattle.state.specs.declared.Entries.{Entries}
-use Rattle.state.specs.declared.Pending.{Pending}
-use Rattle.state.specs.declared.Pending.TheVariants.{Is, NoKind}
 use Rattle.state.specs.declared.Scalars.{Scalars}
 use Rattle.state.specs.declared.Reader.{Reader}
 use Rattle.state.proofs.Calls.{keeps}
@@ -69,10 +68,10 @@ more_leaves r w last e = (fair (read_calls_are_acts r w last)).0 (rw e tt)
 -- ---- each act on a window, but to want more, is one on a longer window
 
 module _ (w x : List ℕ) where
-  next_longer : (v : Version) (p : Pending) → is_out (next_kind v p w) ≡ false → next_kind v p (w ++ x) ≡ next_kind v p w
+  next_longer : (v : Version) (p : Option Kind) → is_out (next_kind v p w) ≡ false → next_kind v p (w ++ x) ≡ next_kind v p w
   unfolding next_kind
-  next_longer v NoKind e = kind_steady v w x 0 e
-  next_longer v (Is k) e = refl
+  next_longer v None e = kind_steady v w x 0 e
+  next_longer v (Some k) e = refl
 
   rest_longer : (k : Kind) (n : ℕ) → is_out (read_rest k w n) ≡ false → read_rest k (w ++ x) n ≡ read_rest k w n
   unfolding read_rest

@@ -1,5 +1,6 @@
 -- While a tick is under way, player entries at or below the remembered client stay as they are: a clause for each act, then any list of
 -- calls. Assumes nothing.
+use Rattle.std.specs.Prelude.{Option, Some, None}
 use Prim.Native.Nat.{ℕ}
 use mathlib.Core.Path.{◌≡◌, refl, sym, ap, ◌∙◌}
 use mathlib.Core.Bool.{Bool, true, false, not, false≢true}
@@ -12,8 +13,6 @@ use lib.Signed.{lt_z}
 use borrow.Author.Tests.{ltb-true, ltb-false, not-true, not-false, le-ltb}
 use Rattle.kinds.specs.declared.Kind.{Kind}
 use Rattle.kinds.specs.declared.Kind.TheVariants as kinds
-use Rattle.kinds.specs.declared.Cid.{Cid}
-use Rattle.kinds.specs.declared.Cid.TheVariants.{Of, NoCid}
 use Rattle.fields.specs.Fields.{got}
 use Rattle.refusal.specs.declared.Refusal.{Refusal}
 use Rattle.state.specs.State.{Memory, with_player, moved, ten_of, with_input}
@@ -21,7 +20,6 @@ use Rattle.state.specs.Reading.{Step, is_closed, closing, raising, naming, endin
 use Rattle.state.specs.steps.Parts.{memory_of}
 use Rattle.state.specs.Acts.{HadKind, wants_tick, MayCome, WhyPlayer, Act}
 use Rattle.state.specs.Acts as act
-use Rattle.state.specs.declared.Pending.TheVariants.{Is}
 use Rattle.state.specs.declared.Entries.{Entries}
 use Rattle.state.specs.declared.Scalars.{Scalars}
 use Rattle.calls.specs.Calls.{after}
@@ -29,16 +27,16 @@ use Rattle.calls.specs.Never.{SamePlayer, PlayersStay}
 use Rattle.calls.proofs.Rise.{after_keeps, above, rises, irrefl, act_ticks}
 
 -- q is at or below the remembered client p, c isn't: q is at or below c, and isn't c
-behind : (p : Cid) (c : ℤ) (q : ℕ) → at_or_below c p ≡ false → at_or_below (pos q) p ≡ true → at_or_below (pos q) (Of c) ≡ true
-behind NoCid c q o b = absurd (false≢true b)
-behind (Of (pos a)) (pos c) q o b =
+behind : (p : Option ℤ) (c : ℤ) (q : ℕ) → at_or_below c p ≡ false → at_or_below (pos q) p ≡ true → at_or_below (pos q) (Some c) ≡ true
+behind None c q o b = absurd (false≢true b)
+behind (Some (pos a)) (pos c) q o b =
     let lt = ltb-true a c (not-false (ltb a c) o) in
     let le = ltb-false a q (not-true (ltb a q) b) in
     ap not (le-ltb c q (omega arith))
-behind (Of (pos a)) (negsuc c) q o b = absurd (false≢true (sym o))
-behind (Of (negsuc a)) c q o b = absurd (false≢true b)
+behind (Some (pos a)) (negsuc c) q o b = absurd (false≢true (sym o))
+behind (Some (negsuc a)) c q o b = absurd (false≢true b)
 
-other : (p : Cid) (c q : ℕ) → at_or_below (pos c) p ≡ false → at_or_below (pos q) p ≡ true → q ≡ c → ⊥
+other : (p : Option ℤ) (c q : ℕ) → at_or_below (pos c) p ≡ false → at_or_below (pos q) p ≡ true → q ≡ c → ⊥
 other p c q o b e = false≢true (sym o ∙ ap (λ (i : ℕ). at_or_below (pos i) p) (sym e) ∙ b)
 
 same_player_law : (e : Entries) (q : ℕ) → SamePlayer e e q
@@ -71,30 +69,30 @@ may_come (act.old_absent h i o) = i
 -- nothing starts a tick any more
 data Over (s : Scalars) : Type 0 where
   closed : is_closed s.standing ≡ true → Over s
-  finishing : s.pending ≡ Is kinds.Finish → Over s
+  finishing : s.pending ≡ Some kinds.Finish → Over s
 
 -- of the clients at or below p: at or below o too, and the same player entries in e as in d
-abbrev Kept : Cid → Entries → Cid → Entries → Type 0
+abbrev Kept : Option ℤ → Entries → Option ℤ → Entries → Type 0
 Kept p d o e = (q : ℕ) → at_or_below (pos q) p ≡ true → (at_or_below (pos q) o ≡ true) × SamePlayer d e q
 
 -- since tick t with the remembered client p and the entries d: a later tick; or no tick, for good; or still that one
-data Since (t : ℤ) (p : Cid) (d : Entries) (s : Scalars) (e : Entries) : Type 0 where
+data Since (t : ℤ) (p : Option ℤ) (d : Entries) (s : Scalars) (e : Entries) : Type 0 where
   later : lt_z t s.tick ≡ true → Since t p d s e
   past : s.inside ≡ false → Over s → Since t p d s e
   within : s.tick ≡ t → s.inside ≡ true → Kept p d s.remembered e → Since t p d s e
 
 -- a pending kind is the one taken
-pending_is : {s : Scalars} {w : List ℕ} {k j : Kind} {n : ℕ} → s.pending ≡ Is k → HadKind s w j n → j ≡ k
+pending_is : {s : Scalars} {w : List ℕ} {k j : Kind} {n : ℕ} → s.pending ≡ Some k → HadKind s w j n → j ≡ k
 unfolding next_kind
 pending_is {s} {w} {k} {j} {n} f h =
     let g : got k 0 ≡ got j n = rw f at h.read in
     cc
 
-abbrev After : ℤ → Cid → Entries → Memory → (Memory → Step) → Type 0
+abbrev After : ℤ → Option ℤ → Entries → Memory → (Memory → Step) → Type 0
 After t p d m f = Since t p d (f m).scalars (f m).memory.entries
 
-module _ (t : ℤ) (p : Cid) (d : Entries) (s : Scalars) (e : Entries) (w : List ℕ) (last : Bool) (m : Memory) where
-  act_past : {f : Memory → Step} → Act s e w last f → s.inside ≡ false → s.pending ≡ Is kinds.Finish → After t p d m f
+module _ (t : ℤ) (p : Option ℤ) (d : Entries) (s : Scalars) (e : Entries) (w : List ℕ) (last : Bool) (m : Memory) where
+  act_past : {f : Memory → Step} → Act s e w last f → s.inside ≡ false → s.pending ≡ Some kinds.Finish → After t p d m f
   unfolding closing naming raising
   act_past (act.wants_more l _) o k = past o (finishing k)
   act_past (act.finishes h _) o k = past o (closed refl)
@@ -116,11 +114,11 @@ module _ (t : ℤ) (p : Cid) (d : Entries) (s : Scalars) (e : Entries) (w : List
 
   -- a player record of client c
   named : (c : ℤ) → MayCome s c → (g : Entries) → ((q : ℕ) → at_or_below (pos q) s.remembered ≡ true → SamePlayer e g q)
-      → Kept p d s.remembered e → Kept p d (Of c) g
+      → Kept p d s.remembered e → Kept p d (Some c) g
   named c i g stays kept q b = (behind s.remembered c q i.rises (kept q b).0, joined (kept q b).1 (stays q (kept q b).0))
 
   placed : (c : ℕ) → MayCome s (pos c) → (mark : ℕ) (x y : ℤ) → Kept p d s.remembered e
-      → Kept p d (Of (pos c)) (with_player e c mark x y)
+      → Kept p d (Some (pos c)) (with_player e c mark x y)
   placed c i mark x y =
       named (pos c) i (with_player e c mark x y) (λ q h. placed_other e c mark x y q (other s.remembered c q i.rises h))
 
@@ -154,7 +152,7 @@ module _ (t : ℤ) (p : Cid) (d : Entries) (s : Scalars) (e : Entries) (w : List
   act_since a o (past i (finishing k)) = act_past a i k
   act_since a o (within now i kept) = act_within a now i kept
 
-stayed : (t : ℤ) (p : Cid) (d : Entries) (s : Scalars) (e : Entries) → Since t p d s e → s.inside ≡ true → s.tick ≡ t
+stayed : (t : ℤ) (p : Option ℤ) (d : Entries) (s : Scalars) (e : Entries) → Since t p d s e → s.inside ≡ true → s.tick ≡ t
     → Kept p d s.remembered e
 stayed t p d s e (later h) i n = absurd (false≢true (sym (irrefl t) ∙ ap (lt_z t) (sym n) ∙ h))
 stayed t p d s e (past o _) i n = absurd (false≢true (sym o ∙ i))

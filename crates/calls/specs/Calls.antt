@@ -1,9 +1,8 @@
 -- Reading calls one behind the other: any list of calls. specs/Along.antt has calls along the bytes of a body. docs/FORMAT.md, "What a call may say".
-use Rattle.std.specs.Prelude.{ℕ, Bool, true, false, List, [], ◌∷◌, ◌++◌, ℤ}
+use Rattle.std.specs.Prelude.{ℕ, Bool, true, false, List, [], ◌∷◌, ◌++◌, ℤ, Option, Some, None}
+use Rattle.kinds.specs.declared.Kind.{Kind}
 use Rattle.item.specs.Said.{Said, gives, more, finish, refuses}
 use Rattle.state.specs.Reading.{Event, Step, read_call, reader_after}
-use Rattle.state.specs.declared.Pending.{Pending}
-use Rattle.state.specs.declared.Pending.TheVariants.{Is, NoKind}
 use Rattle.state.specs.declared.Reader.{Reader}
 
 -- ---- a call, and the event that it may give
@@ -28,9 +27,9 @@ pub record Seen : Type 0 where
   pub ten : List ℤ
   pub former : List ℤ
 
-abbrev pub is_pending : Pending → Bool
-is_pending (Is k) = true
-is_pending NoKind = false
+abbrev pub is_pending : Option Kind → Bool
+is_pending (Some k) = true
+is_pending None = false
 
 abbrev pub seen_by : Bool → List ℕ → Step → Event → ℕ → Seen
 seen_by pending w t e n =

@@ -1,4 +1,5 @@
 -- Fields other than dt, data and the arguments never refuse, so the fields in an extension's data never do. Assumes nothing.
+use Rattle.std.specs.Prelude.{Option, Some, None}
 use Prim.Native.Nat.{ℕ}
 use mathlib.Core.Path.{◌≡◌, refl}
 use mathlib.Core.Bool.{Bool, true, false, false≢true, ◌&&◌}
@@ -18,8 +19,6 @@ use Rattle.fields.specs.steps.Sorts.{int_field, mask_field, part_field, push, an
 use Rattle.fields.proofs.Answers.{and_split}
 use Rattle.extensions.specs.Extensions.{Payload, shaped, all_data, extension_row, payload_at, all}
 use Rattle.extensions.specs.declared.Extension.{Extension}
-use Rattle.extensions.specs.declared.Found.{Found}
-use Rattle.extensions.specs.declared.Found.TheVariants.{Known, Unknown}
 use Rattle.extensions.proofs.Each.{tested}
 use Rattle.item.specs.Records.{Content, as_content, of_payload, of_found}
 use Rattle.item.specs.steps.Reading.{up_to}
@@ -113,6 +112,6 @@ module _ {C : Type 0} {r : Refusal} (w : List ℕ) where
       fields_calm fs (take n w) p.at c (as_calm (Named k) (read_fields fs (take n w) p.at) (upto_calm n _ e))
   payload_calm p k all_data n c e = not_got e
 
-  pub found_calm : (id p : Part) (f : Found) (n : ℕ) → of_found w id p f n ≡ refused r → C
-  found_calm id p (Known k) n e = payload_calm p k (payload_at k) n (load_calm k) e
-  found_calm id p Unknown n e = not_got e
+  pub found_calm : (id p : Part) (f : Option Extension) (n : ℕ) → of_found w id p f n ≡ refused r → C
+  found_calm id p (Some k) n e = payload_calm p k (payload_at k) n (load_calm k) e
+  found_calm id p None n e = not_got e

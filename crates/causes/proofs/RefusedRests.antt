@@ -1,5 +1,6 @@
 -- Which rests of a record are refused: of a TickSkip with a negative dt, of a command with a negative count or a 17th argument, of a
 -- message or an extension with a negative length. Assumes nothing.
+use Rattle.std.specs.Prelude.{Option}
 use Prim.Native.Nat.{ℕ, zero, suc, ◌+◌, ◌<◌}
 use mathlib.Core.Path.{◌≡◌, refl, sym, ◌∙◌, subst}
 use mathlib.Core.Bool.{true, false}
@@ -86,7 +87,7 @@ module _ (w : List ℕ) (n : ℕ) (r : Refusal) where
   dt_refused ints.RunsOut i e = not_out e
 
   -- a message: the data behind its client
-  load_refused : (c : ℤ) (at : ℕ) (m : Remark) → read_int w n ≡ ints.Got c at m → (x : DataRead) → read_data w at ≡ x
+  load_refused : (c : ℤ) (at : ℕ) (m : Option Remark) → read_int w n ≡ ints.Got c at m → (x : DataRead) → read_data w at ≡ x
       → and_then (data_field x) (read_fields [] w) ≡ refused r → RestRefused w n kinds.Message r
   load_refused c at m i (blobs.Got p next) x e = not_got e
   load_refused c at m i blobs.RunsOut x e = not_out e
@@ -109,7 +110,7 @@ module _ (w : List ℕ) (n : ℕ) (r : Refusal) where
   id_refused parts.RunsOut x e = not_out e
 
   module _ {vs : List (Value Part)} {at : ℕ} (h : read_fields (int ∷ mask ∷ str ∷ []) w n ≡ got vs at) where
-    strings_refused : (c next : ℕ) (m : Remark) → read_int w at ≡ ints.Got (pos c) next m → (x : Reading (List Part))
+    strings_refused : (c next : ℕ) (m : Option Remark) → read_int w at ≡ ints.Got (pos c) next m → (x : Reading (List Part))
         → args_from c w [] next ≡ x → and_then (as_strings x) (read_fields [] w) ≡ refused r → RestRefused w n kinds.ConsoleCommand r
     strings_refused c next m i (got ps q) x e = not_got e
     strings_refused c next m i runs_out x e = not_out e

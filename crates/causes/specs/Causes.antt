@@ -1,5 +1,5 @@
 -- Why the reading of a record's kind or of its rest is refused. docs/FORMAT.md, "What a call may say", 4 to 7 and 21.
-use Rattle.std.specs.Prelude.{ℕ, suc, ◌<◌, ◌≡◌, true, List, [], ◌∷◌, ℤ, pos, negsuc}
+use Rattle.std.specs.Prelude.{ℕ, suc, ◌<◌, ◌≡◌, true, List, [], ◌∷◌, ℤ, pos, negsuc, Option}
 use Rattle.std.specs.Int.Signed.{lt_z}
 use Rattle.refusal.specs.declared.Refusal.{Refusal}
 use Rattle.refusal.specs.declared.Refusal.TheVariants as refusal
@@ -24,7 +24,7 @@ pub data UnknownKind : Version → ℤ → Type 0 where
 
 -- 4: the kind at a place is unknown
 pub data KindRefused (v : Version) (w : List ℕ) (at : ℕ) : Refusal → Type 0 where
-  unknown_type : {z : ℤ} {next : ℕ} {remark : Remark} → read_int w at ≡ ints.Got z next remark → UnknownKind v z
+  unknown_type : {z : ℤ} {next : ℕ} {remark : Option Remark} → read_int w at ≡ ints.Got z next remark → UnknownKind v z
       → KindRefused v w at (refusal.UnknownType z)
 
 -- so many strings stand one after the other from a place on
@@ -40,16 +40,16 @@ pub record CountAt (w : List ℕ) (from at : ℕ) : Type 0 where
 -- the rest of a record, at a place
 pub data RestRefused (w : List ℕ) (from : ℕ) : Kind → Refusal → Type 0 where
   -- 5: dt is negative
-  negative_dt : {d next : ℕ} {remark : Remark} → read_int w from ≡ ints.Got (negsuc d) next remark
+  negative_dt : {d next : ℕ} {remark : Option Remark} → read_int w from ≡ ints.Got (negsuc d) next remark
       → RestRefused w from kinds.TickSkip refusal.NegativeDt
   -- 6: the count of arguments is negative
-  negative_num_args : {at c next : ℕ} {remark : Remark} → CountAt w from at → read_int w at ≡ ints.Got (negsuc c) next remark
+  negative_num_args : {at c next : ℕ} {remark : Option Remark} → CountAt w from at → read_int w at ≡ ints.Got (negsuc c) next remark
       → RestRefused w from kinds.ConsoleCommand refusal.NegativeNumArgs
   -- 7: the count is above 16, and a 17th argument string has been read
-  num_args_too_large : {at c next : ℕ} {remark : Remark} → CountAt w from at → read_int w at ≡ ints.Got (pos c) next remark → 16 < c
+  num_args_too_large : {at c next : ℕ} {remark : Option Remark} → CountAt w from at → read_int w at ≡ ints.Got (pos c) next remark → 16 < c
       → Strings w 17 next → RestRefused w from kinds.ConsoleCommand refusal.NumArgsTooLarge
   -- 21: the length of the data has been read, behind the client of a message or the identifier of an extension, and is negative
-  negative_message : {c : ℤ} {at : ℕ} {remark : Remark} → read_int w from ≡ ints.Got c at remark → LengthBelow0 w at
+  negative_message : {c : ℤ} {at : ℕ} {remark : Option Remark} → read_int w from ≡ ints.Got c at remark → LengthBelow0 w at
       → RestRefused w from kinds.Message refusal.NegativeLength
   negative_payload : {id : Part} {at : ℕ} → read_raw 16 w from ≡ parts.Got id at → LengthBelow0 w at
       → RestRefused w from kinds.Ex refusal.NegativeLength

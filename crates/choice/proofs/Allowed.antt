@@ -1,4 +1,5 @@
 -- What it tells that a wanted board is not refused. Assumes nothing.
+use Rattle.std.specs.Prelude.{Option, Some, None}
 use Prim.Native.Nat.{ℕ, ◌<◌}
 use mathlib.Core.Path.{◌≡◌, refl, sym, ap, ◌∙◌}
 use mathlib.Core.Bool.{Bool, true, false, not, cond, ◌&&◌, false≢true}
@@ -7,18 +8,16 @@ use native.Mathlib.Omega.{arith}
 use lib.IntN.{ℤ, pos}
 use lib.Signed.{lt_z, non_neg}
 use borrow.Author.Tests.{not-false}
+use Rattle.kinds.specs.declared.Kind.{Kind}
 use Rattle.refusal.specs.declared.Refusal.{Refusal}
 use Rattle.refusal.specs.declared.Refusal.TheVariants.{BadState, Closed, MidRecord, Unreachable}
 use Rattle.num.proofs.Cases.{by_bool}
-use Rattle.kinds.specs.declared.Cid.{Cid}
 use Rattle.kinds.specs.declared.Version.{Version}
 use Rattle.kinds.specs.declared.Version.TheVariants.{V1, V2}
 use Rattle.state.specs.State.{same_int, holds, good_scalars, good_entries, good_reader}
 use Rattle.state.specs.Reading.{is_closed, at_or_below}
 use Rattle.state.specs.Laws.{ForgetsBetween}
 use Rattle.state.specs.declared.Entries.{Entries}
-use Rattle.state.specs.declared.Pending.{Pending}
-use Rattle.state.specs.declared.Pending.TheVariants.{Is, NoKind}
 use Rattle.state.specs.declared.Scalars.{Scalars}
 use Rattle.state.specs.declared.Standing.{Standing}
 use Rattle.state.specs.declared.Standing.TheVariants.{Open, Finished, Refused}
@@ -29,7 +28,6 @@ use Rattle.teams.specs.declared.TeamReader.{TeamReader}
 use Rattle.calls.specs.Calls.{is_pending}
 use Rattle.back.specs.Board.{board, good_board}
 use Rattle.back.specs.TeamBoard.{good_team_board}
-use Rattle.back.specs.declared.BoardTick.TheVariants.{In}
 use Rattle.demand.proofs.Tests.{and-true, and_both, or-false, same_refl, every_at}
 use Rattle.choice.specs.Chosen.{player_of, same_player}
 use Rattle.choice.specs.Reaching.{
@@ -64,9 +62,9 @@ not_closed Open e = refl
 not_closed Finished e = absurd (false≢true (sym e))
 not_closed Refused e = absurd (false≢true (sym e))
 
-not_pending : (p : Pending) → is_pending p ≡ false → p ≡ NoKind
-not_pending NoKind e = refl
-not_pending (Is k) e = absurd (false≢true (sym e))
+not_pending : (p : Option Kind) → is_pending p ≡ false → p ≡ None
+not_pending None e = refl
+not_pending (Some k) e = absurd (false≢true (sym e))
 
 second_false : (a b : Bool) → a && b ≡ false → a ≡ true → b ≡ false
 second_false a b e t = rw t at e
@@ -82,7 +80,7 @@ module _ (e w : Entries) where
       rw t at a
 
   -- a player entry that differs is above the remembered client
-  differs_above : (p : Cid) → differs_behind p e w ≡ false → (c : ℕ) → c < 128 → same_player (player_of e c) (player_of w c) ≡ false
+  differs_above : (p : Option ℤ) → differs_behind p e w ≡ false → (c : ℕ) → c < 128 → same_player (player_of e c) (player_of w c) ≡ false
       → at_or_below (pos c) p ≡ false
   unfolding differs_behind
   differs_above p f c h d =
@@ -111,7 +109,7 @@ pub record Allowed (r : Reader) (u : ℤ) (w : Entries) : Type 0 where
   pub now : good_entries r.entries ≡ true
   pub wanted : good_entries w ≡ true
   pub reads : r.scalars.standing ≡ Open
-  pub free : r.scalars.pending ≡ NoKind
+  pub free : r.scalars.pending ≡ None
   pub tick : non_neg r.scalars.tick ≡ true
   pub to_tick : non_neg u ≡ true
   pub later : lt_z u r.scalars.tick ≡ false
@@ -172,7 +170,7 @@ module _ (r : TeamReader) (u : ℤ) (w : Entries) (wt : List ℤ) (m : may_reach
   allowed =
       let p = passed in
       let reader = and-true (good_reader r.reader) (good_teams r.teams) p.reader in
-      let other = and-true (good_board (board (In u) w)) (good_teams wt) p.board in
+      let other = and-true (good_board (board (Some u) w)) (good_teams wt) p.board in
       let mine = and-true (good_scalars s) (good_entries e) reader.0 in
       let its = and-true (non_neg u) (good_entries w) other.0 in
       record {
@@ -193,7 +191,7 @@ module _ (r : TeamReader) (u : ℤ) (w : Entries) (wt : List ℤ) (m : may_reach
       let p = passed in
       record {
         now = (and-true (good_reader r.reader) (good_teams r.teams) p.reader).1;
-        wanted = (and-true (good_board (board (In u) w)) (good_teams wt) p.board).1;
+        wanted = (and-true (good_board (board (Some u) w)) (good_teams wt) p.board).1;
         kept = teams_kept r.teams wt p.teams;
         version = team_version s.version wt p.version;
       }

@@ -1,4 +1,5 @@
 -- What is refused 23 can't be done: the theorem, from what reading calls never undo. Assumes nothing.
+use Rattle.std.specs.Prelude.{Some}
 use Prim.Native.Nat.{ℕ}
 use mathlib.Core.Path.{◌≡◌, refl, sym, ap, ◌∙◌}
 use mathlib.Core.Bool.{Bool, true, false, not, cond, ◌&&◌, ◌||◌, false≢true}
@@ -26,7 +27,6 @@ use Rattle.team_calls.proofs.Theorems.{teams_above, version_stays, teams_never_l
 use Rattle.back.specs.Board.{tick_of, board_of}
 use Rattle.back.specs.declared.Board.{Board}
 use Rattle.back.specs.declared.TeamBoard.{TeamBoard}
-use Rattle.back.specs.declared.BoardTick.TheVariants.{In}
 use Rattle.demand.proofs.Tests.{and-true, and_both, same_refl, same_true}
 use Rattle.choice.specs.Chosen.{player_of, same_player}
 use Rattle.choice.specs.declared.Player.{Player}
@@ -87,7 +87,7 @@ module _ (r : Reader) (list : List Call) where
       (ap (λ (z : ℤ). lt_z z t) (sym n) ∙ ticks_rise r list) keeps_inputs l v
       (both_not (r.scalars.inside && same_int u t) differs stay)
 
-pub inside_at : (i : Bool) (t u : ℤ) → tick_of i t ≡ In u → (i ≡ true) × (t ≡ u)
+pub inside_at : (i : Bool) (t u : ℤ) → tick_of i t ≡ Some u → (i ≡ true) × (t ≡ u)
 inside_at true t u e = (refl, cc)
 inside_at false t u e = absurd (let z : ◌≡◌ {A = ℕ} 0 1 = cc in omega arith)
 

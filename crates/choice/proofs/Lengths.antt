@@ -1,4 +1,5 @@
 -- How many bytes the chosen records are at most; and that a record is at least one byte. Assumes nothing.
+use Rattle.std.specs.Prelude.{Option, Some, None}
 use Prim.Native.Nat.{ℕ, zero, suc, ◌+◌, ◌*◌, ◌/◌, ◌≤◌, ◌<◌}
 use mathlib.Core.Path.{◌≡◌, refl, sym, ap, ◌∙◌}
 use mathlib.Core.Bool.{Bool, true, false, not, cond, ◌&&◌}
@@ -27,8 +28,6 @@ use Rattle.state.specs.declared.Entries.{Entries}
 use Rattle.state.specs.declared.Scalars.{Scalars}
 use Rattle.state.proofs.Ten.{ten_length}
 use Rattle.teams.specs.Teams.{team_of}
-use Rattle.teams.specs.declared.Team.{Team}
-use Rattle.teams.specs.declared.Team.TheVariants.{Number, NoTeam}
 use Rattle.choice.specs.Chosen.{
   player_of,
   held_of,
@@ -248,16 +247,16 @@ ex_le id load h k =
     rw (length-append (canonical (negsuc 10)) (id ++ data_bytes load), length-append id (data_bytes load))
     (omega (arith, team_kind, data_le load (omega arith)))
 
-team_record_le : (c : ℕ) (m : Team) → c < 128 → length (bytes_of (team_record c m)) ≤ 25
+team_record_le : (c : ℕ) (m : Option ℤ) → c < 128 → length (bytes_of (team_record c m)) ≤ 25
 unfolding write_content
-team_record_le c (Number n) h =
+team_record_le c (Some n) h =
     let vs = num (pos c) ∷ num n ∷ [] in
     one_le (content (Named PlayerTeam) vs) 25
     (ex_le (id_at PlayerTeam) (payload_bytes (payload_at PlayerTeam) vs) team_id (load_le c n h))
-team_record_le c NoTeam h = none_le 25
+team_record_le c None h = none_le 25
 
 -- of the clients that have entries
-pub team_le : (c : ℕ) (m n : Team) → c < 128 → length (bytes_of (team_step c m n)) ≤ 25
+pub team_le : (c : ℕ) (m n : Option ℤ) → c < 128 → length (bytes_of (team_step c m n)) ≤ 25
 unfolding team_step
 team_le c m n h = one_of_le (same_team m n) [] (team_record c n) 25 (none_le 25) (team_record_le c n h)
 

@@ -1,4 +1,5 @@
 -- Nothing to do gives no bytes; and 16384 bytes of target always suffice. Assumes nothing.
+use Rattle.std.specs.Prelude.{Option, Some, None}
 use Prim.Native.Nat.{ℕ, zero, suc, ◌+◌, ◌≤◌}
 use mathlib.Core.Path.{◌≡◌, refl, sym, ap, ◌∙◌}
 use mathlib.Core.Bool.{Bool, true, not, ◌&&◌}
@@ -18,14 +19,10 @@ use Rattle.state.specs.declared.Scalars.{Scalars}
 use Rattle.state.proofs.Every.{by_cond}
 use Rattle.state.proofs.Numbers.{picks_first, picks_second}
 use Rattle.teams.specs.Teams.{good_team_reader}
-use Rattle.teams.specs.declared.Team.{Team}
-use Rattle.teams.specs.declared.Team.TheVariants.{Number, NoTeam}
 use Rattle.calls.specs.Calls.{is_pending}
 use Rattle.back.specs.Board.{board_of}
 use Rattle.back.specs.TeamBoard.{good_team_board}
 use Rattle.back.specs.declared.TeamBoard.{TeamBoard}
-use Rattle.back.specs.declared.BoardTick.{BoardTick}
-use Rattle.back.specs.declared.BoardTick.TheVariants.{In, NoTick}
 use Rattle.demand.proofs.Tests.{and_both, same_refl, same_all_refl}
 use Rattle.choice.specs.Chosen.{
   same_player,
@@ -85,11 +82,11 @@ no_changes : (e : Entries) → changes e e ≡ []
 unfolding changes
 no_changes e = both_none _ _ (none_joined 128 _ (λ c. no_player _ _)) (none_joined 128 _ (λ c. no_input _ _))
 
-same_team_law : (m : Team) → same_team m m ≡ true
-same_team_law (Number n) = same_refl n
-same_team_law NoTeam = refl
+same_team_law : (m : Option ℤ) → same_team m m ≡ true
+same_team_law (Some n) = same_refl n
+same_team_law None = refl
 
-no_team : (c : ℕ) (m : Team) → team_step c m m ≡ []
+no_team : (c : ℕ) (m : Option ℤ) → team_step c m m ≡ []
 unfolding team_step
 no_team c m = sym (picks_first (same_team m m) [] (team_record c m) (same_team_law m))
 
@@ -121,9 +118,9 @@ nothing_to_do r u w wt e =
 
 -- ---- the target
 
-to_le : (s : Scalars) (e : Entries) (t : List ℤ) (k : BoardTick) (w : Entries) (wt : List ℤ) → length (choice_to s e t k w wt) ≤ 16384
-to_le s e t (In u) w wt = chosen_le s e t u w wt
-to_le s e t NoTick w wt = omega arith
+to_le : (s : Scalars) (e : Entries) (t : List ℤ) (k : Option ℤ) (w : Entries) (wt : List ℤ) → length (choice_to s e t k w wt) ≤ 16384
+to_le s e t (Some u) w wt = chosen_le s e t u w wt
+to_le s e t None w wt = omega arith
 
 number_is : {m n : ℕ} {k l : List ℤ} → ◌≡◌ {A = Said ℕ} (refuses m k) (refuses n l) → m ≡ n
 number_is e = cc

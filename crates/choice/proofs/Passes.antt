@@ -1,4 +1,5 @@
 -- Records one behind the other, and those of one client after the other: where their bytes lead. Assumes nothing.
+use Rattle.std.specs.Prelude.{Option}
 use Prim.Native.Nat.{ℕ, zero, suc, ◌≤◌, ◌<◌}
 use mathlib.Core.Path.{◌≡◌, refl, sym, ap, ◌∙◌}
 use mathlib.Core.Bool.{Bool, true, false, ◌||◌, or-true, or_assoc, or-false}
@@ -8,7 +9,6 @@ use lib.ListN.{get_or}
 use lib.IntN.{ℤ, pos}
 use mir.Syntax.{w32}
 use mir.Val.{SFits}
-use Rattle.kinds.specs.declared.Cid.{Cid}
 use Rattle.written.specs.Written.{write_content}
 use Rattle.state.specs.State.{holds, good_entries}
 use Rattle.state.specs.Laws.{Sizes}
@@ -78,7 +78,7 @@ none r ready p =
     }
 
 -- it has the version that r has
-pub one : {P : Reader → Type 0} {r : Reader} {t : List ℤ} (c : Rec) {p : Cid} {e : Entries} {f : List ℤ → List ℤ}
+pub one : {P : Reader → Type 0} {r : Reader} {t : List ℤ} (c : Rec) {p : Option ℤ} {e : Entries} {f : List ℤ → List ℤ}
     → LeadsWith r (write_content c) r.scalars.tick true p e f
     → ((q : Reader) → q.scalars.version ≡ r.scalars.version → q.scalars.remembered ≡ p → q.entries ≡ e → P q)
     → Comes P r t (c ∷ []) (f t)

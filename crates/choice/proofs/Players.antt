@@ -1,4 +1,5 @@
 -- The records of the player entries, one client after the other: they bring a reader's player entries to the wanted ones. Assumes nothing.
+use Rattle.std.specs.Prelude.{Some}
 use Prim.Native.Nat.{ℕ, suc, ◌≤◌, ◌<◌}
 use mathlib.Core.Path.{◌≡◌, refl, sym, ap, ◌∙◌}
 use mathlib.Core.Bool.{true, false}
@@ -13,7 +14,6 @@ use mir.Facts.{sfits_to_z}
 use borrow.Author.Tests.{lt-ltb, eqb-true}
 use Rattle.num.specs.Wrap.{residue, wrap32}
 use Rattle.num.proofs.Cases.{by_bool}
-use Rattle.kinds.specs.declared.Cid.TheVariants.{Of}
 use Rattle.kinds.specs.declared.Kind.TheVariants as kinds
 use Rattle.written.specs.Written.{write_content}
 use Rattle.state.specs.State.{entries_with, present, x_of, y_of, with_player, moved, zero_in, good_players, good_inputs, good_entries}
@@ -100,7 +100,7 @@ module _ (e w : Entries) (b : Between e w) (ts : List ℤ) (q : Reader) (n : ℕ
   placed m x y em ex ey = rw (em, ex, ey) (ap (λ (k : Entries). with_player k n m x y) i.holds)
 
   -- by a record of client n
-  by_record : (c : Rec) {k : Entries} → Leaves q (write_content c) (Of (pos n)) k → k ≡ players_to e w (suc n)
+  by_record : (c : Rec) {k : Entries} → Leaves q (write_content c) (Some (pos n)) k → k ≡ players_to e w (suc n)
       → Comes (Before e w (suc n)) q ts (c ∷ []) ts
   by_record c l p =
       one c l (λ t _ names holds. record { holds = holds ∙ p; rises = λ d a _ _. rw (names, lt-ltb n d (omega arith)) })

@@ -1,4 +1,5 @@
 -- To the wanted tick: by a skip, or at once. Assumes nothing.
+use Rattle.std.specs.Prelude.{Some}
 use Prim.Native.Nat.{ℕ, ◌+◌, ◌-◌, ◌<◌}
 use mathlib.Core.Path.{◌≡◌, refl, sym, ap, ◌∙◌}
 use mathlib.Core.Bool.{Bool, true, false, not, false≢true}
@@ -15,7 +16,6 @@ use Rattle.kinds.specs.declared.Kind.TheVariants as kinds
 use Rattle.state.specs.Reading.{next_tick, at_or_below}
 use Rattle.state.specs.Laws.{ForgetsBetween}
 use Rattle.state.specs.declared.Entries.{Entries}
-use Rattle.state.specs.declared.Next.TheVariants.{Tick}
 use Rattle.state.specs.declared.Reader.{Reader}
 use Rattle.teams.specs.Teams.{Joining}
 use Rattle.demand.proofs.Tests.{same_refl}
@@ -48,7 +48,7 @@ unfolding skip_to
 no_skip (pos a) = rw (le-ltb a a (omega arith))
 no_skip (negsuc a) = refl
 
-next_is_law : (a b : ℕ) → a < b → b < 2147483648 → next_tick (pos a) (b - a - 1) ≡ Tick (pos b)
+next_is_law : (a b : ℕ) → a < b → b < 2147483648 → next_tick (pos a) (b - a - 1) ≡ Some (pos b)
 unfolding next_tick
 next_is_law a b h l =
     let q : a + (b - a - 1) + 1 ≡ b = omega arith in

@@ -1,4 +1,5 @@
 -- The records of the teams, one client after the other: they bring a reader's teams to the wanted ones. Assumes nothing.
+use Rattle.std.specs.Prelude.{Option, Some, None}
 use Prim.Native.Nat.{ℕ, suc, ◌+◌, ◌*◌, ◌<◌}
 use mathlib.Core.Path.{◌≡◌, refl, sym, ap, ◌∙◌}
 use mathlib.Core.Bool.{true, false}
@@ -18,8 +19,6 @@ use Rattle.state.specs.declared.Reader.{Reader}
 use Rattle.state.proofs.Numbers.{picks_first, picks_second}
 use Rattle.teams.specs.Teams.{mark_of, number_of, has_team, team_of, mark_for, number_for, with_team, put_team, good_team, good_teams}
 use Rattle.teams.specs.Laws.{SoundTeams}
-use Rattle.teams.specs.declared.Team.{Team}
-use Rattle.teams.specs.declared.Team.TheVariants.{Number, NoTeam}
 use Rattle.team_calls.proofs.Never.{has_some, some_has}
 use Rattle.demand.proofs.Tests.{and-true, and_both, same_true, every_at}
 use Rattle.choice.specs.Chosen.{joined, team_record, team_step, team_for}
@@ -46,10 +45,10 @@ two_of t c g h =
     let good = every_at 128 (λ k. good_team (mark_of t k) (number_of t k)) g c h in
     by_bool (same_int (mark_of t c) (pos 1))
     (λ q.
-    let s = sym (picks_first (has_team t c) (Number (number_of t c)) NoTeam (and_both (ltb c 128) _ (lt-ltb c 128 h) q)) in
+    let s = sym (picks_first (has_team t c) (Some (number_of t c)) None (and_both (ltb c 128) _ (lt-ltb c 128 h) q)) in
     record { mark = ap mark_for s ∙ sym (same_true (mark_of t c) (pos 1) q); number = ap number_for s })
     (λ q.
-    let s = sym (picks_second (has_team t c) (Number (number_of t c)) NoTeam (rw (lt-ltb c 128 h) q)) in
+    let s = sym (picks_second (has_team t c) (Some (number_of t c)) None (rw (lt-ltb c 128 h) q)) in
     let z = blank (mark_of t c) (number_of t c) q good in
     record { mark = ap mark_for s ∙ sym z.0; number = ap number_for s ∙ sym z.1 })
 
@@ -94,35 +93,35 @@ module _ (w : Entries) (v : Version) (t wt : List ℤ) (now : SoundTeams t) (nex
         rw (← teams_same t wt n (sym x.mark ∙ ap mark_for e ∙ y.mark) (sym x.number ∙ ap number_for e ∙ y.number)) (none q ready i)
 
     -- a record puts the wanted team in
-    placed : (m : ℤ) → team_of wt (pos n) ≡ Number m → put_team (teams_to t wt n) (pos n) (Number m) ≡ teams_to t wt (suc n)
+    placed : (m : ℤ) → team_of wt (pos n) ≡ Some m → put_team (teams_to t wt n) (pos n) (Some m) ≡ teams_to t wt (suc n)
     unfolding with_team
     placed m e =
         let y = two_of wt n next.good h in
         let mark : pos 1 ≡ mark_of wt n = sym (ap mark_for e) ∙ y.mark in
         let number : m ≡ number_of wt n = sym (ap number_for e) ∙ y.number in
-        sym (picks_first (ltb n 128) (with_team (teams_to t wt n) n (Number m)) (teams_to t wt n) (lt-ltb n 128 h))
+        sym (picks_first (ltb n 128) (with_team (teams_to t wt n) n (Some m)) (teams_to t wt n) (lt-ltb n 128 h))
         ∙ (λ k. set (set (teams_to t wt n) (2 * n) (mark k)) (2 * n + 1) (number k))
         ∙ sym (teams_next t wt n)
 
-    wants : (m : ℤ) → team_of wt (pos n) ≡ Number m → has_team wt n ≡ true
-    wants m e = some_has wt n (λ f. let g : Number m ≡ NoTeam = sym e ∙ f in let z : ◌≡◌ {A = ℕ} 0 1 = cc in omega arith)
+    wants : (m : ℤ) → team_of wt (pos n) ≡ Some m → has_team wt n ≡ true
+    wants m e = some_has wt n (λ f. let g : Some m ≡ None = sym e ∙ f in let z : ◌≡◌ {A = ℕ} 0 1 = cc in omega arith)
 
-    joins : (m : ℤ) → team_of wt (pos n) ≡ Number m → Comes (With w v) q (teams_to t wt n) (team_record n (Number m)) (teams_to t wt (suc n))
+    joins : (m : ℤ) → team_of wt (pos n) ≡ Some m → Comes (With w v) q (teams_to t wt n) (team_record n (Some m)) (teams_to t wt (suc n))
     joins m e =
         let number : number_of wt n ≡ m = sym (two_of wt n next.good h).number ∙ ap number_for e in
         rw (← placed m e)
         (one _ (team_leads q n m ready (i.version ∙ a.version n h (wants m e)) h (rw number at (fits (2 * n + 1))))
         (λ r version names holds. record { holds = holds ∙ i.holds; version = version ∙ i.version }))
 
-    by_teams : (x y : Team) → team_of t (pos n) ≡ x → team_of wt (pos n) ≡ y
+    by_teams : (x y : Option ℤ) → team_of t (pos n) ≡ x → team_of wt (pos n) ≡ y
         → Comes (With w v) q (teams_to t wt n) (team_step n x y) (teams_to t wt (suc n))
     unfolding team_step
-    by_teams (Number x) (Number y) ex ey =
-        by_bool (same_int x y) (λ s. rw s (stays (ex ∙ ap Number (same_true x y s) ∙ sym ey))) (λ s. rw s (joins y ey))
-    by_teams (Number x) NoTeam ex ey =
-        absurd (has_some wt n (a.kept n h (some_has t n (λ f. let g : Number x ≡ NoTeam = sym ex ∙ f in let z : ◌≡◌ {A = ℕ} 0 1 = cc in omega arith))) ey)
-    by_teams NoTeam (Number y) ex ey = joins y ey
-    by_teams NoTeam NoTeam ex ey = stays (ex ∙ sym ey)
+    by_teams (Some x) (Some y) ex ey =
+        by_bool (same_int x y) (λ s. rw s (stays (ex ∙ ap Some (same_true x y s) ∙ sym ey))) (λ s. rw s (joins y ey))
+    by_teams (Some x) None ex ey =
+        absurd (has_some wt n (a.kept n h (some_has t n (λ f. let g : Some x ≡ None = sym ex ∙ f in let z : ◌≡◌ {A = ℕ} 0 1 = cc in omega arith))) ey)
+    by_teams None (Some y) ex ey = joins y ey
+    by_teams None None ex ey = stays (ex ∙ sym ey)
 
   pub teams_come : (r : Reader) → Ready r → r.entries ≡ w → r.scalars.version ≡ v → Comes (With w v) r t (joined 128 (team_for t wt)) wt
   unfolding over

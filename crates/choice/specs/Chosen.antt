@@ -1,5 +1,5 @@
 -- Which records bring a reader to a wanted board: free, and this is the choice. docs/FORMAT.md, "From a wanted board to a recording".
-use Rattle.std.specs.Prelude.{ℕ, zero, suc, ◌-◌, Bool, true, false, not, cond, ◌&&◌, List, [], ◌∷◌, ◌++◌, map, get_or, ltb, eqb, ℤ, pos, negsuc, ◌-ℤ◌}
+use Rattle.std.specs.Prelude.{ℕ, zero, suc, ◌-◌, Bool, true, false, not, cond, ◌&&◌, List, [], ◌∷◌, ◌++◌, map, get_or, ltb, eqb, ℤ, pos, negsuc, ◌-ℤ◌, Option, Some, None}
 use Rattle.num.specs.Wrap.{wrap32}
 use Rattle.fields.specs.Fields.{num, bytes, strings}
 use Rattle.kinds.specs.declared.Kind.{Kind}
@@ -12,8 +12,6 @@ use Rattle.state.specs.State.{same_int, x_of, y_of, ten_of}
 use Rattle.state.specs.declared.Entries.{Entries}
 use Rattle.state.specs.declared.Scalars.{Scalars}
 use Rattle.teams.specs.Teams.{team_of}
-use Rattle.teams.specs.declared.Team.{Team}
-use Rattle.teams.specs.declared.Team.TheVariants.{Number, NoTeam}
 unfoldable pub use Rattle.compare.specs.Compare.{same_all}
 use Rattle.choice.specs.declared.Player.{Player}
 use Rattle.choice.specs.declared.Held.{Held}
@@ -75,17 +73,17 @@ changes e w = joined 128 (player_for e w) ++ joined 128 (input_for e w)
 
 -- ---- teams: a client's team, m now and n as wanted; who has one can't lose it
 
-abbrev pub same_team : Team → Team → Bool
-same_team (Number a) (Number b) = same_int a b
-same_team (Number a) NoTeam = false
-same_team NoTeam (Number b) = false
-same_team NoTeam NoTeam = true
+abbrev pub same_team : Option ℤ → Option ℤ → Bool
+same_team (Some a) (Some b) = same_int a b
+same_team (Some a) None = false
+same_team None (Some b) = false
+same_team None None = true
 
-abbrev pub team_record : ℕ → Team → List Rec
-team_record c (Number n) = content (Named PlayerTeam) (num (pos c) ∷ num n ∷ []) ∷ []
-team_record c NoTeam = []
+abbrev pub team_record : ℕ → Option ℤ → List Rec
+team_record c (Some n) = content (Named PlayerTeam) (num (pos c) ∷ num n ∷ []) ∷ []
+team_record c None = []
 
-unfoldable pub team_step : ℕ → Team → Team → List Rec
+unfoldable pub team_step : ℕ → Option ℤ → Option ℤ → List Rec
 team_step c m n = cond (same_team m n) [] (team_record c n)
 
 abbrev pub team_for : List ℤ → List ℤ → ℕ → List Rec

@@ -1,5 +1,5 @@
 -- What holds of the choice of records, as statements; proofs/Theorems.antt proves each. docs/FORMAT.md, "From a wanted board to a recording".
-use Rattle.std.specs.Prelude.{ℕ, ◌≤◌, ◌≡◌, true, false, List, [], length, get_or, ℤ, pos}
+use Rattle.std.specs.Prelude.{ℕ, ◌≤◌, ◌≡◌, true, false, List, [], length, get_or, ℤ, pos, Some}
 use Rattle.std.specs.Int.{w32}
 use Rattle.std.proofs.Common.{SFits}
 use Rattle.refusal.specs.Said.{refusing}
@@ -15,7 +15,6 @@ use Rattle.calls.specs.Calls.{Call}
 use Rattle.team_calls.specs.Lists.{team_after}
 use Rattle.back.specs.Board.{board}
 use Rattle.back.specs.TeamBoard.{team_board, team_board_of}
-use Rattle.back.specs.declared.BoardTick.TheVariants.{In}
 use Rattle.back.specs.declared.TeamBoard.{TeamBoard}
 use Rattle.choice.specs.Reaching.{cant_reach, choice, may, may_reach, reach_says}
 use Rattle.leading.specs.Windows.{at, Cut, reads, Leading, Ends}
@@ -33,7 +32,7 @@ pub record Typed (u : ℤ) (w : Entries) (wt : List ℤ) : Type 0 where
 
 -- tick u, entries w, teams wt
 abbrev pub wanted : ℤ → Entries → List ℤ → TeamBoard
-wanted u w wt = team_board (board (In u) w) wt
+wanted u w wt = team_board (board (Some u) w) wt
 
 -- ---- from a reader reached by reading, by any list of calls from an empty one, to a board that isn't refused
 

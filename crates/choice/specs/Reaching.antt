@@ -1,12 +1,10 @@
 -- From a reader and a wanted board to the bytes of records that bring the reader there. docs/FORMAT.md, "From a wanted board to a recording".
-use Rattle.std.specs.Prelude.{ℕ, ◌≡◌, Bool, true, not, cond, ◌&&◌, ◌||◌, List, [], ℤ, pos}
+use Rattle.std.specs.Prelude.{ℕ, ◌≡◌, Bool, true, not, cond, ◌&&◌, ◌||◌, List, [], ℤ, pos, Option, Some, None, Result}
 use Rattle.std.specs.Int.Signed.{lt_z}
 use Rattle.refusal.specs.Said.{Said, refusing}
 use Rattle.refusal.specs.declared.Refusal.{Refusal}
 use Rattle.refusal.specs.declared.Refusal.TheVariants.{BadState, Closed, MidRecord, Unreachable}
 use Rattle.varint.specs.Written.{written, wrote_said, writing}
-use Rattle.varint.specs.declared.Wrote.{Wrote}
-use Rattle.kinds.specs.declared.Cid.{Cid}
 use Rattle.kinds.specs.declared.Version.{Version}
 use Rattle.state.specs.State.{same_int, holds, every, has_ex}
 use Rattle.state.specs.Reading.{is_closed, at_or_below}
@@ -16,8 +14,6 @@ use Rattle.teams.specs.Teams.{has_team, good_team_reader}
 use Rattle.teams.specs.declared.TeamReader.{TeamReader}
 use Rattle.calls.specs.Calls.{is_pending}
 use Rattle.back.specs.TeamBoard.{good_team_board}
-use Rattle.back.specs.declared.BoardTick.{BoardTick}
-use Rattle.back.specs.declared.BoardTick.TheVariants.{In, NoTick}
 use Rattle.back.specs.declared.TeamBoard.{TeamBoard}
 use Rattle.choice.specs.Chosen.{player_of, same_player, chosen, bytes_of}
 
@@ -43,7 +39,7 @@ abbrev pub team_without : Version → List ℤ → Bool
 team_without v wt = not (has_ex v) && any_team wt
 
 -- a player entry differs at or below the remembered client
-unfoldable pub differs_behind : Cid → Entries → Entries → Bool
+unfoldable pub differs_behind : Option ℤ → Entries → Entries → Bool
 differs_behind p e w = not (every 128 (λ c. cond (at_or_below (pos c) p) (same_player (player_of e c) (player_of w c)) true))
 
 -- the ticks are equal, the reader is inside it, and a player entry differs at or below the remembered client
@@ -55,15 +51,15 @@ cant_reach s e t u w wt =
     tick_below s u || (loses_input e w || (loses_team t wt || (team_without s.version wt || player_behind s e u w)))
 
 -- 23: a wanted board outside a tick too
-abbrev pub unreachable : Scalars → Entries → List ℤ → BoardTick → Entries → List ℤ → Bool
-unreachable s e t (In u) w wt = cant_reach s e t u w wt
-unreachable s e t NoTick w wt = true
+abbrev pub unreachable : Scalars → Entries → List ℤ → Option ℤ → Entries → List ℤ → Bool
+unreachable s e t (Some u) w wt = cant_reach s e t u w wt
+unreachable s e t None w wt = true
 
 -- ---- the bytes of the chosen records
 
-abbrev pub choice_to : Scalars → Entries → List ℤ → BoardTick → Entries → List ℤ → List ℕ
-choice_to s e t (In u) w wt = bytes_of (chosen s e t u w wt)
-choice_to s e t NoTick w wt = []
+abbrev pub choice_to : Scalars → Entries → List ℤ → Option ℤ → Entries → List ℤ → List ℕ
+choice_to s e t (Some u) w wt = bytes_of (chosen s e t u w wt)
+choice_to s e t None w wt = []
 
 unfoldable pub choice : TeamReader → TeamBoard → List ℕ
 choice r b = choice_to r.reader.scalars r.reader.entries r.teams b.board.tick b.board.entries b.teams
@@ -97,6 +93,6 @@ reach_leaves may xs bs = written xs 0 bs
 reach_leaves (may_not why) xs bs = xs
 
 -- the answer w on the target xs, and the target ys after it
-pub record ReachIs (r : TeamReader) (b : TeamBoard) (xs : List ℕ) (w : Wrote) (ys : List ℕ) : Type 0 where
+pub record ReachIs (r : TeamReader) (b : TeamBoard) (xs : List ℕ) (w : Result ℕ Refusal) (ys : List ℕ) : Type 0 where
   pub answer : wrote_said w ≡ reach_says (may_reach r b) xs (choice r b)
   pub target : ys ≡ reach_leaves (may_reach r b) xs (choice r b)

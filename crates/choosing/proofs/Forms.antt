@@ -1,4 +1,5 @@
 -- Each record of the choice, as the code makes it: what it means, and in which versions it can be written. Assumes nothing.
+use Rattle.std.specs.Prelude.{Option, Some, None}
 use Prim.Native.Nat.{ℕ, ◌≤◌}
 use mathlib.Core.Path.{◌≡◌, refl, ◌∙◌, ap}
 use mathlib.Core.Bool.{true, false}
@@ -20,20 +21,18 @@ use Rattle.kinds.specs.declared.Version.{Version}
 use Rattle.extensions.specs.Extensions.{extension_row, payload_at}
 use Rattle.item.specs.Contents.{record_with, no_args}
 use Rattle.item.specs.declared.Item.{Item}
+use Rattle.item.specs.declared.Record.{Record}
 use Rattle.item.specs.declared.Item.TheVariants as items
 use Rattle.written.specs.Form.{has_form, content_writable}
 use Rattle.written.specs.Unwritable.{record_writable}
 use Rattle.written.proofs.Unwritable.{writable_is_form, ints_inside, all_of}
-use Rattle.teams.specs.declared.Team.TheVariants.{Number}
 use Rattle.choice.specs.Chosen.{of_numbers, team_record, empty_command}
 use Rattle.choosing.specs.Choice.{ChoosesIn, Chooses}
-use Rattle.choosing.specs.declared.Choice.{Choice}
 
-abbrev pub alone : Item → Choice
-alone i = record { there = true; value = record_with i (zeros 10) no_args }
+abbrev pub alone : Item → Option Record
+alone i = Some (record_with i (zeros 10) no_args)
 
-pub none_chosen : Chooses [] (record { there = false; value = record_with items.Finish (zeros 10) no_args })
-unfolding record_writable
+pub none_chosen : Chooses [] None
 none_chosen = λ v. record { is = refl; writable = refl }
 
 pub diff_chosen : (c : ℕ) (dx dy : ℤ) → Chooses (of_numbers (kinds.PlayerDiff (pos c)) (dx ∷ dy ∷ []) ∷ []) (alone (items.PlayerDiff (pos c) dx dy))
@@ -61,7 +60,7 @@ two_numbers : (a b : ℤ) → length (write_fields (int ∷ int ∷ []) (num a �
 two_numbers a b =
     omega (arith, length-append (canonical a) (canonical b ++ []), length-append (canonical b) [], canonical_le a, canonical_le b)
 
-pub team_chosen : (v : Version) → has_ex v ≡ true → (c : ℕ) (n : ℤ) → ChoosesIn v (team_record c (Number n)) (alone (items.PlayerTeam (pos c) n))
+pub team_chosen : (v : Version) → has_ex v ≡ true → (c : ℕ) (n : ℤ) → ChoosesIn v (team_record c (Some n)) (alone (items.PlayerTeam (pos c) n))
 unfolding has_form content_writable payload_at extension_row
 team_chosen v h c n =
     record {
@@ -78,7 +77,7 @@ numbers_mean [] = refl
 numbers_mean (z ∷ zs) = ap (λ vs. num z ∷ vs) (numbers_mean zs)
 
 pub input_chosen : (c : ℕ) (ten : List ℤ)
-    → Chooses (of_numbers kinds.InputNew (pos c ∷ ten) ∷ []) (record { there = true; value = record_with (items.InputNew (pos c)) ten no_args })
+    → Chooses (of_numbers kinds.InputNew (pos c ∷ ten) ∷ []) (Some (record_with (items.InputNew (pos c)) ten no_args))
 unfolding has_form content_writable
 input_chosen c ten v =
     record {

@@ -1,4 +1,5 @@
 -- Each place of the choice by the cases of its tests, with the record that the code makes there. Assumes nothing.
+use Rattle.std.specs.Prelude.{Option, Some, None}
 use Prim.Native.Nat.{ℕ, ◌-◌, ◌<◌}
 use mathlib.Core.Path.{◌≡◌, refl, sym, ◌∙◌, subst}
 use mathlib.Core.Bool.{Bool, true, false, ◌||◌}
@@ -13,28 +14,26 @@ use borrow.Author.Tests.{lt-ltb, le-ltb, ltb-true, leb-true, leb-false}
 use Rattle.num.specs.Wrap.{wrap32}
 use Rattle.item.specs.Contents.{record_with, no_args}
 use Rattle.item.specs.declared.Item.TheVariants as items
+use Rattle.item.specs.declared.Record.{Record}
 use Rattle.packer.specs.Parts.{part}
 use Rattle.kinds.specs.declared.Version.{Version}
 use Rattle.state.proofs.Numbers.{back, element}
-use Rattle.teams.specs.declared.Team.{Team}
-use Rattle.teams.specs.declared.Team.TheVariants.{Number, NoTeam}
 use Rattle.choice.specs.Chosen.{Rec, same_player, same_held, same_team, player_between, player_step, input_step, team_step, skip_to, start_if}
 use Rattle.choice.specs.declared.Player.{Player}
 use Rattle.choice.specs.declared.Held.{Held}
 use Rattle.choosing.specs.Choice.{ChoosesIn, Chooses, team_in}
-use Rattle.choosing.specs.declared.Choice.{Choice}
 use Rattle.choosing.proofs.Forms.{alone, diff_chosen, new_chosen, old_chosen, skip_chosen, command_chosen, team_chosen, input_chosen}
 
 -- what a function answers, from the choice that another one made
-pub as_made : (cs : List Rec) (r d : Choice) → r ≡ d → Chooses cs d → Chooses cs r
+pub as_made : (cs : List Rec) (r d : Option Record) → r ≡ d → Chooses cs d → Chooses cs r
 as_made cs r d e h = subst (Chooses cs) (sym e) h
 
-at_place : (cs ds : List Rec) (r : Choice) → cs ≡ ds → Chooses ds r → Chooses cs r
+at_place : (cs ds : List Rec) (r : Option Record) → cs ≡ ds → Chooses ds r → Chooses cs r
 at_place cs ds r e h = subst (λ (l : List Rec). Chooses l r) (sym e) h
 
 -- ---- a player entry
 
-module _ (c : ℕ) (p q : Player) (r : Choice) where
+module _ (c : ℕ) (p q : Player) (r : Option Record) where
   same_step : same_player p q ≡ true → player_step c p q ≡ []
   unfolding player_step
   same_step e = rw e
@@ -69,7 +68,7 @@ subtracted x d r fx fd fr e = back r fr ∙ e ∙ (λ k. wrap32 (element x fx k 
 
 -- ---- inputs
 
-module _ (c : ℕ) (p q : Held) (r : Choice) where
+module _ (c : ℕ) (p q : Held) (r : Option Record) where
   pub input_away : eqb q.mark 1 ≡ false → Chooses [] r → Chooses (input_step c p q) r
   unfolding input_step
   input_away e h = rw e h
@@ -79,30 +78,30 @@ module _ (c : ℕ) (p q : Held) (r : Choice) where
   input_same e s h = rw (e, s) h
 
   pub input_new_law : eqb q.mark 1 ≡ true → same_held p q ≡ false → (i : ℤ) → i ≡ pos c
-      → r ≡ record { there = true; value = record_with (items.InputNew i) q.ten no_args } → Chooses (input_step c p q) r
+      → r ≡ Some (record_with (items.InputNew i) q.ten no_args) → Chooses (input_step c p q) r
   unfolding input_step
   input_new_law e s i ei er = rw (er, ei, e, s) (input_chosen c q.ten)
 
 -- ---- a team
 
-module _ (c : ℕ) (m n : Team) (r : Choice) (v : Version) where
+module _ (c : ℕ) (m n : Option ℤ) (r : Option Record) (v : Version) where
   pub team_same : same_team m n ≡ true → Chooses [] r → ChoosesIn v (team_step c m n) r
   unfolding team_step
   team_same e h = rw e (h v)
 
   module _ (e : same_team m n ≡ false) where
-    pub team_none : n ≡ NoTeam → Chooses [] r → ChoosesIn v (team_step c m n) r
+    pub team_none : n ≡ None → Chooses [] r → ChoosesIn v (team_step c m n) r
     unfolding team_step
     team_none en h = rw (e, en) (h v)
 
-    pub team_new : (k : ℤ) → n ≡ Number k → team_in v n ≡ true → (i j : ℤ) → i ≡ pos c → j ≡ k → r ≡ alone (items.PlayerTeam i j)
+    pub team_new : (k : ℤ) → n ≡ Some k → team_in v n ≡ true → (i j : ℤ) → i ≡ pos c → j ≡ k → r ≡ alone (items.PlayerTeam i j)
         → ChoosesIn v (team_step c m n) r
     unfolding team_step
     team_new k en h i j ei ej er = rw (er, ei, ej, e, en) (team_chosen v (rw en at h) c k)
 
 -- ---- ticks
 
-module _ (r : Choice) where
+module _ (r : Option Record) where
   pub skip_before : (t u : ℤ) → lt_z t (pos 0) ≡ true → Chooses [] r → Chooses (skip_to t u) r
   unfolding skip_to
   skip_before (pos t) u e h = absurd (omega (arith, ltb-true t 0 e))

@@ -1,7 +1,7 @@
 // Which records bring a reader to a wanted board: one place of the choice after the other.
 #![tactic(auto)]
 
-ghost use Rattle.std.specs.Prelude.{◌≡◌, true, [], pos};
+ghost use Rattle.std.specs.Prelude.{◌≡◌, true, [], pos, Some};
 ghost use Rattle.fields.specs.Views.{zeros};
 ghost use Rattle.kinds.specs.declared.Version.{Version};
 ghost use Rattle.item.specs.Contents.{record_with, no_args};
@@ -11,15 +11,8 @@ ghost use Rattle.choosing.specs.Choice.{ChoosesIn, Chooses, team_in};
 use choice::{Held, Player};
 use fields::Args;
 use item::{Item, Record};
+use kinds::Version;
 use packer::Part;
-use teams::Team;
-
-// A record, if there is one.
-#[derive(Clone, Copy)]
-pub struct Choice {
-    pub there: bool,
-    pub value: Record,
-}
 
 const NO_PART: Part = Part { at: 0, len: 0 };
 
@@ -33,30 +26,21 @@ fn no_args() -> Args
 }
 
 // A record with ten numbers beside it.
-fn with_ten(there: bool, item: Item, ten: [i32; 10]) -> Choice
-    ensures { result ≡ record { there = there; value = record_with item ten no_args } }
+fn with_ten(item: Item, ten: [i32; 10]) -> Option<Record>
+    ensures { result ≡ Some (record_with item ten no_args) }
 {
-    Choice {
-        there,
-        value: Record {
-            item,
-            input: ten,
-            args: no_args(),
-        },
-    }
+    Some(Record {
+        item,
+        input: ten,
+        args: no_args(),
+    })
 }
 
 // A record with nothing beside it.
-fn plain(item: Item) -> Choice
-    ensures { result ≡ record { there = true; value = record_with item (zeros 10) no_args } }
+fn plain(item: Item) -> Option<Record>
+    ensures { result ≡ Some (record_with item (zeros 10) no_args) }
 {
-    with_ten(true, item, [0; 10])
-}
-
-fn none() -> Choice
-    ensures { Chooses [] result }
-{
-    with_ten(false, Item::Finish, [0; 10])
+    with_ten(item, [0; 10])
 }
 
 pub fn same_player(p: Player, q: Player) -> bool
@@ -79,17 +63,17 @@ fn same_held(p: Held, q: Held) -> bool
     good::both(p.mark == q.mark, compare::same_ten(a, b))
 }
 
-fn same_team(m: Team, n: Team) -> bool
+fn same_team(m: Option<i32>, n: Option<i32>) -> bool
     ensures { result ≡ same_team m n }
 {
     match m {
-        Team::Number(a) => match n {
-            Team::Number(b) => compare::same_number(a, b),
-            Team::NoTeam => false,
+        Some(a) => match n {
+            Some(b) => compare::same_number(a, b),
+            None => false,
         },
-        Team::NoTeam => match n {
-            Team::Number(_) => false,
-            Team::NoTeam => true,
+        None => match n {
+            Some(_) => false,
+            None => true,
         },
     }
 }
@@ -101,11 +85,11 @@ fn number(c: u8) -> i32
 }
 
 // The player record of client c, from its entry p to the wanted one, q.
-pub fn player_step(c: u8, p: Player, q: Player) -> Choice
+pub fn player_step(c: u8, p: Player, q: Player) -> Option<Record>
     ensures { Chooses (player_step c p q) result }
 {
     if same_player(p, q) {
-        return none();
+        return None;
     }
     let cid = number(c);
     if p.mark == 1 {
@@ -125,32 +109,32 @@ pub fn player_step(c: u8, p: Player, q: Player) -> Choice
             y: q.y,
         });
     }
-    none()
+    None
 }
 
 // The InputNew of client c, from its entry p to the wanted one, q.
-pub fn input_step(c: u8, p: Held, q: Held) -> Choice
+pub fn input_step(c: u8, p: Held, q: Held) -> Option<Record>
     ensures { Chooses (input_step c p q) result }
 {
     if q.mark != 1 {
-        return none();
+        return None;
     }
     if same_held(p, q) {
-        return none();
+        return None;
     }
     let ten = q.ten;
-    with_ten(true, Item::InputNew { cid: number(c) }, ten)
+    with_ten(Item::InputNew { cid: number(c) }, ten)
 }
 
 // The PlayerTeam of client c, from its team m to the wanted one, n; with no team wanted there is none, so it is for version 2 or nothing.
-pub fn team_step(c: u8, m: Team, n: Team) -> Choice
+pub fn team_step(c: u8, m: Option<i32>, n: Option<i32>) -> Option<Record>
     ensures { (v : Version) → team_in v n ≡ true → ChoosesIn v (team_step c m n) result }
 {
     if same_team(m, n) {
-        return none();
+        return None;
     }
-    let Team::Number(team) = n else {
-        return none();
+    let Some(team) = n else {
+        return None;
     };
     plain(Item::PlayerTeam {
         cid: number(c),
@@ -159,14 +143,14 @@ pub fn team_step(c: u8, m: Team, n: Team) -> Choice
 }
 
 // The TickSkip from tick t to tick u, if that is a later one.
-pub fn skip_to(t: i32, u: i32) -> Choice
+pub fn skip_to(t: i32, u: i32) -> Option<Record>
     ensures { Chooses (skip_to t u) result }
 {
     if t < 0 {
-        return none();
+        return None;
     }
     if u <= t {
-        return none();
+        return None;
     }
     let from = t as u32;
     let to = u as u32;
@@ -184,11 +168,11 @@ pub fn started_by(inside: bool, t: i32, u: i32) -> bool
 }
 
 // A command that changes nothing, for a tick that has to start and has nothing else to start it.
-pub fn start_if(started: bool, changed: bool) -> Choice
+pub fn start_if(started: bool, changed: bool) -> Option<Record>
     ensures { Chooses (start_if started changed) result }
 {
     if started | changed {
-        return none();
+        return None;
     }
     plain(Item::ConsoleCommand {
         cid: -1,

@@ -1,4 +1,5 @@
 -- Runs of calls on a whole body: what a first call adds to the number of events. Assumes nothing.
+use Rattle.std.specs.Prelude.{Option, Some, None}
 use Prim.Native.Nat.{ℕ, suc}
 use native.Mathlib.Omega.{arith}
 use mathlib.Core.Path.{◌≡◌, refl}
@@ -15,8 +16,6 @@ use Rattle.calls.specs.Laws.{Within}
 use Rattle.calls.proofs.Theorems.{events_of_few}
 use Rattle.calls.proofs.Runs.{follow}
 use Rattle.count.specs.Count.{events_in, most, event_count, used_by}
-use Rattle.count.specs.declared.Used.{Used}
-use Rattle.count.specs.declared.Used.TheVariants.{Bytes, NoEvent}
 
 pub sees_all : (last : Bool) → Within (all_of last)
 sees_all last bytes = omega arith
@@ -36,9 +35,9 @@ most_calls_law v body = events_of_few (all_of true) (sees_all true) most (empty_
 
 -- ---- by the bytes that the first call's event used, if it gives one
 
-abbrev Counts : ℕ → Reader → List ℕ → ℕ → Used → Type 0
-Counts k r w n (Bytes used) = n ≡ suc (events k (reader_after (read_call r w true)) (drop used w))
-Counts k r w n NoEvent = n ≡ 0
+abbrev Counts : ℕ → Reader → List ℕ → ℕ → Option ℕ → Type 0
+Counts k r w n (Some used) = n ≡ suc (events k (reader_after (read_call r w true)) (drop used w))
+Counts k r w n None = n ≡ 0
 
 said_counts : (k : ℕ) (r : Reader) (w : List ℕ) (a : Said Event) → Counts k r w (length (follow (all_of true) k r w a).seen) (used_by a)
 said_counts k r w (gives e n) = refl
@@ -46,6 +45,6 @@ said_counts k r w more = refl
 said_counts k r w (finish n) = refl
 said_counts k r w (refuses j vs) = refl
 
-pub first_counts : (k : ℕ) (r : Reader) (w : List ℕ) (u : Used) → u ≡ used_by (read_call r w true).said → Counts k r w (events (suc k) r w) u
+pub first_counts : (k : ℕ) (r : Reader) (w : List ℕ) (u : Option ℕ) → u ≡ used_by (read_call r w true).said → Counts k r w (events (suc k) r w) u
 unfolding along
 first_counts k r w u e = rw e (said_counts k r w (read_call r w true).said)

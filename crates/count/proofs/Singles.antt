@@ -1,4 +1,5 @@
 -- How far single calls have counted. Assumes nothing.
+use Rattle.std.specs.Prelude.{Option, Some, None}
 use Prim.Native.Nat.{ℕ, suc, ◌+◌, ◌-◌, ◌≤◌, ◌<◌, zero-le}
 use native.Mathlib.Omega.{arith}
 use mathlib.Core.Path.{◌≡◌, sym, ◌∙◌}
@@ -14,8 +15,6 @@ use Rattle.state.specs.Laws.{used_in}
 use Rattle.state.specs.declared.Reader.{Reader}
 use Rattle.calls.proofs.Theorems.{call_within}
 use Rattle.count.specs.Count.{most, event_count, used_by}
-use Rattle.count.specs.declared.Used.{Used}
-use Rattle.count.specs.declared.Used.TheVariants.{Bytes, NoEvent}
 use Rattle.count.proofs.Runs.{events, no_calls, most_calls_law, first_counts}
 
 -- so many events were counted, and the rest is counted from the reader and the place reached
@@ -34,7 +33,7 @@ window_at body at = take (length body - at) (drop at body)
 pub whole : (body : List ℕ) (at : ℕ) → window_at body at ≡ drop at body
 whole body at = take_all (length body - at) (drop at body) (omega (arith, length-drop at body))
 
-used_within : (a : Said Event) (n : ℕ) → Bytes n ≡ used_by a → used_in a ≡ n
+used_within : (a : Said Event) (n : ℕ) → Some n ≡ used_by a → used_in a ≡ n
 used_within (gives e n) m h = cc
 used_within more m h = let z : ◌≡◌ {A = ℕ} 0 1 = cc in absurd (omega arith)
 used_within (finish n) m h = let z : ◌≡◌ {A = ℕ} 0 1 = cc in absurd (omega arith)
@@ -48,7 +47,7 @@ module _ (v : Version) (body : List ℕ) (r : Reader) (at count : ℕ) (f : Far 
       omega (arith, s, no_calls r (drop at body))
 
   -- one call more, by the bytes that its event used
-  module _ (h : count < most) (u : Used) (said : u ≡ used_by (read_call r (window_at body at) true).said) where
+  module _ (h : count < most) (u : Option ℕ) (said : u ≡ used_by (read_call r (window_at body at) true).said) where
     here : u ≡ used_by (read_call r (drop at body) true).said
     here = rw (whole body at) at said
 
@@ -61,15 +60,15 @@ module _ (v : Version) (body : List ℕ) (r : Reader) (at count : ℕ) (f : Far 
         let e : most - count ≡ suc (most - (count + 1)) = omega (arith, h) in
         rw e at f.rest
 
-    pub far_end : u ≡ NoEvent → count ≡ event_count v body
+    pub far_end : u ≡ None → count ≡ event_count v body
     far_end e =
-        let n : events (suc left) r (drop at body) ≡ 0 = first_counts left r (drop at body) NoEvent (sym e ∙ here) in
+        let n : events (suc left) r (drop at body) ≡ 0 = first_counts left r (drop at body) None (sym e ∙ here) in
         omega (arith, rest, n)
 
-    pub far_more : (q : Reader) (n : ℕ) → u ≡ Bytes n → q ≡ reader_after (read_call r (window_at body at) true) → Far v body q (at + n) (count + 1)
+    pub far_more : (q : Reader) (n : ℕ) → u ≡ Some n → q ≡ reader_after (read_call r (window_at body at) true) → Far v body q (at + n) (count + 1)
     unfolding left
     far_more q n e is =
-        let b : Bytes n ≡ used_by (read_call r (drop at body) true).said = sym e ∙ here in
+        let b : Some n ≡ used_by (read_call r (drop at body) true).said = sym e ∙ here in
         let w = call_within r (drop at body) true in
         let to : q ≡ reader_after (read_call r (drop at body) true) = rw (whole body at) at is in
         let d : events left (reader_after (read_call r (drop at body) true)) (drop n (drop at body)) ≡ events left q (drop (at + n) body) =
@@ -77,5 +76,5 @@ module _ (v : Version) (body : List ℕ) (r : Reader) (at count : ℕ) (f : Far 
         record {
           within = omega (arith, f.within, w, used_within (read_call r (drop at body) true).said n b, length-drop at body);
           few = omega (arith, h);
-          rest = omega (arith, rest, first_counts left r (drop at body) (Bytes n) b, d);
+          rest = omega (arith, rest, first_counts left r (drop at body) (Some n) b, d);
         }

@@ -1,13 +1,11 @@
 -- How many events a body has.
-use Rattle.std.specs.Prelude.{ℕ, min, Bool, true, false, List, length}
+use Rattle.std.specs.Prelude.{ℕ, min, Bool, true, false, List, length, Option, Some, None}
 use Rattle.item.specs.Said.{Said, gives, more, finish, refuses}
 use Rattle.kinds.specs.declared.Version.{Version}
 use Rattle.kinds.specs.declared.Version.TheVariants.{V1, V2}
 use Rattle.state.specs.State.{empty_reader}
 use Rattle.state.specs.Reading.{Event}
 use Rattle.calls.specs.Along.{calls, enough}
-use Rattle.count.specs.declared.Used.{Used}
-use Rattle.count.specs.declared.Used.TheVariants.{Bytes, NoEvent}
 
 abbrev pub version_if : Bool → Version
 version_if true = V2
@@ -25,8 +23,8 @@ abbrev pub event_count : Version → List ℕ → ℕ
 event_count v body = min most (events_in v body)
 
 -- the bytes that the event of a call used
-abbrev pub used_by : Said Event → Used
-used_by (gives e n) = Bytes n
-used_by more = NoEvent
-used_by (finish n) = NoEvent
-used_by (refuses k vs) = NoEvent
+abbrev pub used_by : Said Event → Option ℕ
+used_by (gives e n) = Some n
+used_by more = None
+used_by (finish n) = None
+used_by (refuses k vs) = None

@@ -9,13 +9,6 @@ ghost use Rattle.count.specs.Count.{version_if, used_by};
 use kinds::Version;
 use state::Answer;
 
-// The bytes that the event of a call used, if it gave one.
-#[derive(Clone, Copy)]
-pub enum Used {
-    Bytes(usize),
-    NoEvent,
-}
-
 pub fn version_if(second: bool) -> Version
     ensures { result ≡ version_if second }
 {
@@ -35,13 +28,13 @@ pub fn past(at: usize, used: usize, end: usize) -> usize
     at + used
 }
 
-pub fn event_used(answer: Answer) -> Used
+pub fn event_used(answer: Answer) -> Option<usize>
     ensures { result ≡ used_by (said_is answer) }
 {
     match answer {
-        Answer::Event { event: _, used } => Used::Bytes(used),
-        Answer::More => Used::NoEvent,
-        Answer::Finish { used: _ } => Used::NoEvent,
-        Answer::Refused(_) => Used::NoEvent,
+        Answer::Event { event: _, used } => Some(used),
+        Answer::More => None,
+        Answer::Finish { used: _ } => None,
+        Answer::Refused(_) => None,
     }
 }

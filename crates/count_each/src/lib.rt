@@ -5,7 +5,6 @@
 ghost use Rattle.std.specs.Prelude.{◌≡◌};
 ghost use Rattle.count.specs.Count.{version_if, event_count};
 
-use count::Used;
 use state::Reader;
 
 const MOST: u64 = 4611686018427387904;
@@ -20,7 +19,7 @@ pub fn jolzerv_count_each(second: bool, body: &[u8]) -> u64
     while count < MOST {
         let read = reader::read(reader, &body[at..], true);
         let answer = read.answer;
-        let Used::Bytes(used) = count::event_used(answer) else {
+        let Some(used) = count::event_used(answer) else {
             return count;
         };
         at = count::past(at, used, body.len());

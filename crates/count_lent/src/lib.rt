@@ -4,7 +4,6 @@
 ghost use Rattle.std.specs.Prelude.{◌≡◌};
 ghost use Rattle.count.specs.Count.{version_if, event_count};
 
-use count::Used;
 use state::Reader;
 
 const MOST: u64 = 4611686018427387904;
@@ -39,7 +38,7 @@ pub fn jolzerv_count_lent(second: bool, body: &[u8]) -> u64
             true,
         );
         let answer = o.answer;
-        let Used::Bytes(used) = count::event_used(answer) else {
+        let Some(used) = count::event_used(answer) else {
             return count;
         };
         at = count::past(at, used, body.len());

@@ -4,7 +4,6 @@
 #![tactic(auto)]
 
 use kinds::Version;
-use queries::WantedAnswer;
 use state::Reader;
 use texts::Text;
 
@@ -68,12 +67,9 @@ fn run_case(input: &[u8]) {
     if input.len() == 0 {
         return;
     }
-    let wanted = queries::wanted(cases::first(input));
-    let answer = wanted.answer;
-    let reader = wanted.reader;
-    match answer {
-        WantedAnswer::Is => run_reader(reader, cases::window(input, 1, input.len())),
-        WantedAnswer::Refused(why) => print(texts::refused(why)),
+    match queries::wanted(cases::first(input)) {
+        Ok(reader) => run_reader(reader, cases::window(input, 1, input.len())),
+        Err(why) => print(texts::refused(why)),
     }
 }
 

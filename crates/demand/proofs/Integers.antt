@@ -1,4 +1,5 @@
 -- Integers read one after the other: the bytes that they use are enough to read them, and hold no others. Assumes nothing.
+use Rattle.std.specs.Prelude.{Option}
 use Prim.Native.Nat.{ℕ, zero, suc, ◌+◌, ◌-◌, ◌≤◌, ◌<◌}
 use mathlib.Core.Path.{◌≡◌, refl, sym, ◌∙◌, ap}
 use mathlib.Core.Bool.{true, false}
@@ -15,7 +16,7 @@ use Rattle.demand.specs.Events.{integers, last_two, difference}
 
 -- ---- one integer: it uses a byte or more, and no byte past them matters
 
-module _ (at sign : ℕ) (v : ℤ) (next : ℕ) (r : Remark) where
+module _ (at sign : ℕ) (v : ℤ) (next : ℕ) (r : Option Remark) where
   record From (s : List ℕ) (k n : ℕ) : Type 0 where
     more : at + k < next
     within : next ≤ at + k + length s
@@ -52,12 +53,12 @@ drop_take zero m l = let q : 0 + m ≡ m = omega arith in rw q
 drop_take (suc k) m [] = let q : suc k + m ≡ suc (k + m) = omega arith in rw q (sym (take-nil m))
 drop_take (suc k) m (x ∷ l) = let q : suc k + m ≡ suc (k + m) = omega arith in rw q (drop_take k m l)
 
-record Uses (w : List ℕ) (at : ℕ) (v : ℤ) (next : ℕ) (r : Remark) : Type 0 where
+record Uses (w : List ℕ) (at : ℕ) (v : ℤ) (next : ℕ) (r : Option Remark) : Type 0 where
   more : at < next
   within : next ≤ length w
   cut : (m : ℕ) → next ≤ m → read_int (take m w) at ≡ Got v next r
 
-uses : (w : List ℕ) (at : ℕ) (v : ℤ) (next : ℕ) (r : Remark) → read_int w at ≡ Got v next r → Uses w at v next r
+uses : (w : List ℕ) (at : ℕ) (v : ℤ) (next : ℕ) (r : Option Remark) → read_int w at ≡ Got v next r → Uses w at v next r
 unfolding read_int
 uses w at v next r e =
     let f = from at (sign_of (get_or w at 0)) v next r (drop at w) 0 0 e in
@@ -76,7 +77,7 @@ uses w at v next r e =
 
 pub data Run (w : List ℕ) : ℕ → List ℤ → ℕ → Type 0 where
   none : {at : ℕ} → Run w at [] at
-  one : {at m next : ℕ} {z : ℤ} {zs : List ℤ} (r : Remark) → read_int w at ≡ Got z m r → Run w m zs next → Run w at (z ∷ zs) next
+  one : {at m next : ℕ} {z : ℤ} {zs : List ℤ} (r : Option Remark) → read_int w at ≡ Got z m r → Run w m zs next → Run w at (z ∷ zs) next
 
 pub run_append : {w : List ℕ} {a b c : ℕ} {xs ys : List ℤ} → Run w a xs b → Run w b ys c → Run w a (xs ++ ys) c
 run_append none t = t

@@ -1,4 +1,5 @@
 -- What is read before and in a record: integers, one after the other. Assumes nothing.
+use Rattle.std.specs.Prelude.{Option, Some, None}
 use Prim.Native.Nat.{ℕ, zero, suc}
 use mathlib.Core.Path.{◌≡◌, refl, ap}
 use mathlib.Core.List.{List, [], ◌∷◌}
@@ -23,8 +24,6 @@ use Rattle.kinds.specs.declared.Version.TheVariants.{V1, V2}
 use Rattle.kinds.specs.declared.Kind.{Kind}
 use Rattle.kinds.specs.declared.Kind.TheVariants.{PlayerNew, PlayerOld}
 use Rattle.state.specs.Reading.{next_kind}
-use Rattle.state.specs.declared.Pending.{Pending}
-use Rattle.state.specs.declared.Pending.TheVariants.{Is, NoKind}
 use Rattle.demand.proofs.Integers.{Run, none, one, run_append}
 
 -- ---- fields that are numbers
@@ -35,7 +34,7 @@ pub data Ints (w : List ℕ) (at n : ℕ) : Reading (List (Value Part)) → Type
   out : Ints w at n runs_out
 
 module _ (w : List ℕ) where
-  pushed : {at m n : ℕ} {z : ℤ} {o : Reading (List (Value Part))} (r : Remark) → read_int w at ≡ ints.Got z m r → Ints w m n o
+  pushed : {at m n : ℕ} {z : ℤ} {o : Reading (List (Value Part))} (r : Option Remark) → read_int w at ≡ ints.Got z m r → Ints w m n o
       → Ints w at (suc n) (push (num z) o)
   unfolding numbers
   pushed {z = z} r e (had vs next s l) = had (num z ∷ vs) next (one r e s) (ap suc l)
@@ -100,7 +99,7 @@ number_at : (v : Version) (w : List ℕ) (x : IntRead) → read_int w 0 ≡ x �
 number_at v w (ints.Got z n r) e = kind_at v w z n (one r e none)
 number_at v w ints.RunsOut e = tt
 
-pub next_at : (v : Version) (p : Pending) (w : List ℕ) → KindAt w (next_kind v p w)
+pub next_at : (v : Version) (p : Option Kind) (w : List ℕ) → KindAt w (next_kind v p w)
 unfolding next_kind read_kind
-next_at v NoKind w = number_at v w (read_int w 0) refl
-next_at v (Is k) w = record { before = []; run = none }
+next_at v None w = number_at v w (read_int w 0) refl
+next_at v (Some k) w = record { before = []; run = none }

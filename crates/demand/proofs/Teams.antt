@@ -1,4 +1,5 @@
 -- Teams over lists of events, the last first: had back by stepping back, and told by the last PlayerTeam. Assumes nothing.
+use Rattle.std.specs.Prelude.{Some, None}
 use Prim.Native.Nat.{ℕ, ◌<◌}
 use mathlib.Core.Path.{◌≡◌, refl, sym, ap, ◌∙◌}
 use mathlib.Core.Bool.{Bool, true, false, cond}
@@ -14,7 +15,6 @@ use Rattle.state.specs.Reading.{Event}
 use Rattle.state.proofs.Numbers.{picks_first}
 use Rattle.teams.specs.Teams.{team_of, Joining, joins, nobody, joining_of, teams_after, former_team}
 use Rattle.teams.specs.Laws.{SoundTeams}
-use Rattle.teams.specs.declared.Team.TheVariants.{Number, NoTeam}
 use Rattle.teams.proofs.Theorems.{teams_stay_sound, team_set, others_stay, teams_go_back}
 use Rattle.calls.specs.Calls.{Seen}
 use Rattle.team_calls.specs.Lists.{TeamSeen, teams_so_far, formers_so_far}
@@ -103,7 +103,7 @@ teams_had_back t s (x ∷ xs) b a q =
 
 module _ (e : Event) (t : List ℤ) (size : length t ≡ 256) (c : ℕ) (h : c < 128) where
   by_same : (d n : ℤ) (b : Bool) → same_int (pos c) d ≡ b → joining_of e ≡ joins d n
-      → team_of (teams_after e t) (pos c) ≡ cond b (Number n) (team_of t (pos c))
+      → team_of (teams_after e t) (pos c) ≡ cond b (Some n) (team_of t (pos c))
   by_same d n true s q = team_set e t c n size h (q ∙ ap (λ (z : ℤ). joins z n) (sym (same_true (pos c) d s)))
   by_same d n false s q = others_stay e t d (pos c) n q s
 
@@ -112,7 +112,7 @@ module _ (e : Event) (t : List ℤ) (size : length t ≡ 256) (c : ℕ) (h : c <
   one_told (joins d n) q = by_same d n (same_int (pos c) d) refl q
   one_told nobody q = rw q
 
-pub teams_told : (t : List ℤ) → SoundTeams t → (xs : List Seen) (c : ℕ) → c < 128 → team_of t (pos c) ≡ NoTeam
+pub teams_told : (t : List ℤ) → SoundTeams t → (xs : List Seen) (c : ℕ) → c < 128 → team_of t (pos c) ≡ None
     → team_of (teams_so_far t xs) (pos c) ≡ last_team (pos c) (formers_so_far t xs)
 unfolding teams_so_far formers_so_far last_team
 teams_told t s [] c h e = e

@@ -1,4 +1,5 @@
 -- Demand 3 (specs/Demand.antt): the part without teams, and above it the teams. Assumes nothing.
+use Rattle.std.specs.Prelude.{None}
 use Prim.Native.Nat.{ℕ}
 use mathlib.Core.Path.{◌≡◌, refl, sym, ap, subst, ◌∙◌}
 use mathlib.Core.Bool.{Bool, ◌||◌}
@@ -9,7 +10,6 @@ use Rattle.state.specs.State.{empty_reader}
 use Rattle.state.specs.declared.Reader.{Reader}
 use Rattle.teams.specs.Teams.{team_of, no_teams, team_reader, empty_team_reader}
 use Rattle.teams.specs.Laws.{SoundTeams}
-use Rattle.teams.specs.declared.Team.TheVariants.{NoTeam}
 use Rattle.teams.specs.declared.TeamReader.{TeamReader}
 use Rattle.teams.proofs.Theorems.{no_teams_sound, no_teams_none}
 use Rattle.calls.specs.Calls.{Call, Seen, after, events}
@@ -83,7 +83,7 @@ module _ (v : Version) (t : List ℤ) (sound : SoundTeams t) (before between : L
   told_plain : Told (after (empty_reader v) (before ++ between)).entries (map (λ (x : TeamSeen). x.seen) (formers_so_far t all))
   told_plain = subst (Told (after (empty_reader v) (before ++ between)).entries) (sym (plain_events t all)) plain.told
 
-  told : ((c : ℕ) → team_of t (pos c) ≡ NoTeam) → BoardTold (team_after start (before ++ between)) (team_events start (before ++ between))
+  told : ((c : ℕ) → team_of t (pos c) ≡ None) → BoardTold (team_after start (before ++ between)) (team_events start (before ++ between))
   told none =
       let a = teams_above start (before ++ between) sound in
       subst {A = TeamReader × List TeamSeen} (λ p. BoardTold p.0 p.1) (λ i. (sym a.left i, sym a.same i))

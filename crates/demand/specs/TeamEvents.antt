@@ -1,9 +1,7 @@
 -- Lists of calls with teams and their events, the last first: a refusal 13 among them; stepping back over them; what they say of a client's team.
-use Rattle.std.specs.Prelude.{Bool, false, cond, ◌||◌, List, [], ◌∷◌, ℤ}
+use Rattle.std.specs.Prelude.{Bool, false, cond, ◌||◌, List, [], ◌∷◌, ℤ, Option, Some, None}
 use Rattle.state.specs.State.{same_int}
 use Rattle.teams.specs.Teams.{Joining, on_joining, joining_of}
-use Rattle.teams.specs.declared.Team.{Team}
-use Rattle.teams.specs.declared.Team.TheVariants.{Number, NoTeam}
 use Rattle.teams.specs.declared.TeamReader.{TeamReader}
 use Rattle.calls.specs.Calls.{Call}
 use Rattle.team_calls.specs.Lists.{TeamSeen, call_team, next_team}
@@ -25,9 +23,9 @@ team_back_over a [] = a
 team_back_over a (x ∷ l) = team_back_over (team_back_one a x) l
 
 -- client c's team: that of its last PlayerTeam event, or none
-abbrev pub team_after_one : ℤ → Joining → Team → Team
-team_after_one c j before = on_joining (λ d n. cond (same_int c d) (Number n) before) before j
+abbrev pub team_after_one : ℤ → Joining → Option ℤ → Option ℤ
+team_after_one c j before = on_joining (λ d n. cond (same_int c d) (Some n) before) before j
 
-unfoldable pub last_team : ℤ → List TeamSeen → Team
-last_team c [] = NoTeam
+unfoldable pub last_team : ℤ → List TeamSeen → Option ℤ
+last_team c [] = None
 last_team c (x ∷ l) = team_after_one c (joining_of x.seen.event) (last_team c l)

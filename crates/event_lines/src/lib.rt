@@ -7,16 +7,20 @@ ghost use Rattle.lines.specs.Lines.{line_of, line_answer, line_target};
 
 use refusal::Refusal;
 use state::Event;
-use varint::Wrote;
 
 // Refused 9, with nothing changed, where the longest line wouldn't fit.
 // The ten numbers are those of an Input event; else they are not looked at.
-pub fn write_line(event: Event, input: [i32; 10], out: &mut [u8], at: usize) -> Wrote
+pub fn write_line(
+    event: Event,
+    input: [i32; 10],
+    out: &mut [u8],
+    at: usize,
+) -> Result<usize, Refusal>
     ensures answer { result ≡ line_answer out.old at (line_of (event_is event) input) }
     ensures target { out.new ≡ line_target out.old at (line_of (event_is event) input) }
 {
     if !lines::has_longest(out.len(), at) {
-        return Wrote::Refused(Refusal::ShortTarget);
+        return Err(Refusal::ShortTarget);
     }
     match event {
         Event::TickStart(t) => lines::write_plain(b"start", &[t], out, at),

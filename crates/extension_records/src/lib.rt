@@ -9,7 +9,7 @@ ghost use Rattle.item.specs.Records.{of_payload, of_found, read_ex};
 ghost use Rattle.item.specs.Contents.{item_of};
 ghost use Rattle.extension_records.specs.steps.Views.{ex_is, ex_content};
 
-use extensions::{Extension, Found, Layout};
+use extensions::{Extension, Layout};
 use item::Item;
 use packer::{DataRead, Part, PartRead};
 use shapes::{Fields, FieldsRead};
@@ -141,8 +141,8 @@ fn read_found(s: &[u8], at: usize, load: Part, next: usize) -> ExRead
 {
     let found = ids::find_id(s, at);
     match found {
-        Found::Known(which) => read_payload(s, which, load, next),
-        Found::Unknown => ExRead::Got {
+        Some(which) => read_payload(s, which, load, next),
+        None => ExRead::Got {
             item: Item::UnknownEx {
                 uuid: at,
                 data: load,

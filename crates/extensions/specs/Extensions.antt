@@ -1,5 +1,5 @@
 -- Extensions: the 20 identifiers, the constants of item.rs, and what stands in the data of each. docs/FORMAT.md, "Records".
-use Rattle.std.specs.Prelude.{ℕ, Bool, true, false, cond, List, [], ◌∷◌, ◌++◌}
+use Rattle.std.specs.Prelude.{ℕ, Bool, true, false, cond, List, [], ◌∷◌, ◌++◌, Option, Some, None}
 use Rattle.fields.specs.Fields.{Field, int, str, uuid}
 use Rattle.kinds.specs.Magic.{same_bytes}
 use Rattle.extensions.specs.declared.Extension.{Extension}
@@ -25,8 +25,6 @@ use Rattle.extensions.specs.declared.Extension.TheVariants.{
   TeamSaveFailure,
   TeamSaveSuccess,
 }
-use Rattle.extensions.specs.declared.Found.{Found}
-use Rattle.extensions.specs.declared.Found.TheVariants.{Known, Unknown}
 
 -- what an extension's data holds: fields, with spare bytes behind them; all of it is one part
 pub data Payload : Type 0 where
@@ -87,13 +85,13 @@ unfoldable pub all : List Extension
 all = connections ++ players ++ teams
 
 -- the extension among some that an identifier names
-unfoldable pub find_in : List Extension → List ℕ → Found
-find_in [] id = Unknown
-find_in (e ∷ es) id = cond (same_bytes id (id_at e)) (Known e) (find_in es id)
+unfoldable pub find_in : List Extension → List ℕ → Option Extension
+find_in [] id = None
+find_in (e ∷ es) id = cond (same_bytes id (id_at e)) (Some e) (find_in es id)
 
-unfoldable pub find : List ℕ → Found
+unfoldable pub find : List ℕ → Option Extension
 find id = find_in all id
 
-abbrev pub is_unknown : Found → Bool
-is_unknown (Known e) = false
-is_unknown Unknown = true
+abbrev pub is_unknown : Option Extension → Bool
+is_unknown (Some e) = false
+is_unknown None = true

@@ -33,13 +33,6 @@ pub enum Extension {
     TeamSaveSuccess,
 }
 
-// Whether an identifier is that of one of them.
-#[derive(Clone, Copy)]
-pub enum Found {
-    Known(Extension),
-    Unknown,
-}
-
 // What stands in an extension's data: fields of a shape, or all of it is one part.
 #[derive(Clone, Copy)]
 pub enum Layout {

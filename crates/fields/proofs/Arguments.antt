@@ -1,4 +1,5 @@
 -- The arguments as the code reads them: one string more, the array that holds them, and what the answers are. Assumes nothing.
+use Rattle.std.specs.Prelude.{Option}
 use Prim.Native.Nat.{ℕ, suc, ◌+◌, ◌-◌, ◌≤◌, ◌<◌}
 use mathlib.Core.Path.{◌≡◌, refl, sym, ◌∙◌, ap}
 use mathlib.Core.List.{List, [], ◌∷◌, ◌++◌}
@@ -130,7 +131,7 @@ module _ (s : List ℕ) (at : ℕ) where
   pub count_out : read_int s at ≡ ints.RunsOut → read_args code.RunsOut [] ≡ args_read (field_parts (read_field args s at))
   count_out e = rw e
 
-  module _ (n next : ℕ) (r : Remark) where
+  module _ (n next : ℕ) (r : Option Remark) where
     pub count_negative : read_int s at ≡ ints.Got (negsuc n) next r
         → read_args (code.Refused NegativeNumArgs) [] ≡ args_read (field_parts (read_field args s at))
     count_negative e = rw e

@@ -1,4 +1,5 @@
 -- The numbers of an input as the code reads them: one number more, and what the answers are. Assumes nothing.
+use Rattle.std.specs.Prelude.{Option}
 use Prim.Native.Nat.{ℕ, suc, ◌+◌, ◌-◌, ◌≤◌, ◌<◌}
 use mathlib.Core.Path.{◌≡◌, refl, sym, ◌∙◌}
 use mathlib.Core.List.{List, [], ◌∷◌, ◌++◌, append_assoc, append-nil}
@@ -46,7 +47,7 @@ module _ (n : ℕ) (s : List ℕ) (cid : ℤ) (zs : List ℤ) (at : ℕ) where
   unfolding more
   step_out e = rw e
 
-  step_more : (z : ℤ) (next : ℕ) (r : Remark) → read_int s at ≡ ints.Got z next r
+  step_more : (z : ℤ) (next : ℕ) (r : Option Remark) → read_int s at ≡ ints.Got z next r
       → more cid zs (read_fields (number_fields (suc n)) s at) ≡ more cid (zs ++ z ∷ []) (read_fields (number_fields n) s next)
   step_more z next r e = rw e (one_had cid z zs (read_fields (number_fields n) s next))
 
@@ -75,13 +76,13 @@ module _ (s : List ℕ) (at : ℕ) (input : List ℤ) (next k : ℕ) (far : Far 
     pub far_out : read_int s next ≡ ints.RunsOut → input_with code.RunsOut (zeros 10) ≡ ten_read cid (read_fields ten_fields s at)
     far_out e = sym (next_of ∙ step_out (10 - (k + 1)) s cid (take k input) next e)
 
-    next_more : (z : ℤ) (past : ℕ) (r : Remark) → read_int s next ≡ ints.Got z past r
+    next_more : (z : ℤ) (past : ℕ) (r : Option Remark) → read_int s next ≡ ints.Got z past r
         → ten_read cid (read_fields ten_fields s at) ≡ more cid (take (k + 1) (set input k z)) (read_fields (number_fields (10 - (k + 1))) s past)
     next_more z past r e =
         let t : take (k + 1) (set input k z) ≡ take k input ++ z ∷ [] = rw add-one (take-suc-set input k z (omega (arith, far.size))) in
         next_of ∙ step_more (10 - (k + 1)) s cid (take k input) next z past r e ∙ rw t
 
-  pub far_more : k < 10 → (z : ℤ) (past : ℕ) (r : Remark) → read_int s next ≡ ints.Got z past r → Far s at (set input k z) past (k + 1)
+  pub far_more : k < 10 → (z : ℤ) (past : ℕ) (r : Option Remark) → read_int s next ≡ ints.Got z past r → Far s at (set input k z) past (k + 1)
   far_more some z past r e =
       record {
         few = omega arith;
@@ -100,6 +101,6 @@ push_read z (got vs next) = refl
 push_read z runs_out = refl
 push_read z (refused r) = refl
 
-pub input_got : (s : List ℕ) (at : ℕ) (z : ℤ) (next : ℕ) (r : Remark) → read_int s at ≡ ints.Got z next r
+pub input_got : (s : List ℕ) (at : ℕ) (z : ℤ) (next : ℕ) (r : Option Remark) → read_int s at ≡ ints.Got z next r
     → ten_read z (read_fields ten_fields s next) ≡ input_read (read_fields input_fields s at)
 input_got s at z next r e = rw e (push_read z (read_fields ten_fields s next))

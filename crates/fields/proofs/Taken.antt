@@ -1,5 +1,6 @@
 -- One field that was read: the place past it is within the window, its parts lie inside it, what follows changes nothing, its
 -- meaning has a written form, and where its integer has no remark its bytes are that form. Assumes nothing.
+use Rattle.std.specs.Prelude.{Option, Some, None}
 use Prim.Native.Nat.{ℕ, ◌+◌, ◌≤◌}
 use mathlib.Core.Path.{◌≡◌, refl, sym, ◌∙◌, ap}
 use mathlib.Core.Bool.{true}
@@ -16,7 +17,7 @@ use Rattle.varint.specs.Integers.{read_int}
 use Rattle.varint.specs.Written.{canonical}
 use Rattle.varint.specs.Laws.{Bytes}
 use Rattle.varint.specs.declared.Remark.{Remark}
-use Rattle.varint.specs.declared.Remark.TheVariants.{None, Overlong, Padding}
+use Rattle.varint.specs.declared.Remark.TheVariants.{Overlong, Padding}
 use Rattle.varint.specs.declared.IntRead.{IntRead}
 use Rattle.varint.specs.declared.IntRead.TheVariants as ints
 use Rattle.varint.proofs.Prefix.{int_within, int_fits, int_whole}
@@ -65,15 +66,15 @@ pub record Taken (f : Field) (s : List ℕ) (at : ℕ) (v : Value Part) (next : 
   pub whole : Bytes s → field_remark f s at ≡ 0 → drop at s ≡ write_field f (mean s v) ++ drop next s
 
 -- no remark counted is no remark
-none : (z : ℤ) (m : ℕ) (k : Remark) → remark_in (ints.Got z m k) ≡ 0 → k ≡ None
+none : (z : ℤ) (m : ℕ) (k : Option Remark) → remark_in (ints.Got z m k) ≡ 0 → k ≡ None
 none z m None e = refl
-none z m Overlong e = absurd (omega arith)
-none z m Padding e = absurd (omega arith)
+none z m (Some Overlong) e = absurd (omega arith)
+none z m (Some Padding) e = absurd (omega arith)
 
 module _ (s : List ℕ) (at : ℕ) (h : at ≤ length s) where
   -- ---- numbers
 
-  int_taken : (z : ℤ) (m : ℕ) (k : Remark) → read_int s at ≡ ints.Got z m k → Taken int s at (num z) m
+  int_taken : (z : ℤ) (m : ℕ) (k : Option Remark) → read_int s at ≡ ints.Got z m k → Taken int s at (num z) m
   int_taken z m k e =
       record {
         within = int_within s at z m k h e;
@@ -84,7 +85,7 @@ module _ (s : List ℕ) (at : ℕ) (h : at ≤ length s) where
         whole = λ b r. (int_whole s at m z b (e ∙ ap (ints.Got z m) (none z m k (rw e at r)))).0;
       }
 
-  dt_taken : (n m : ℕ) (k : Remark) → read_int s at ≡ ints.Got (pos n) m k → Taken dt s at (num (pos n)) m
+  dt_taken : (n m : ℕ) (k : Option Remark) → read_int s at ≡ ints.Got (pos n) m k → Taken dt s at (num (pos n)) m
   dt_taken n m k e =
       let g = int_taken (pos n) m k e in
       record {
@@ -96,7 +97,7 @@ module _ (s : List ℕ) (at : ℕ) (h : at ≤ length s) where
         whole = g.whole;
       }
 
-  mask_taken : (z : ℤ) (m : ℕ) (k : Remark) → read_int s at ≡ ints.Got z m k → Taken mask s at (num (pos (of_z w32 z))) m
+  mask_taken : (z : ℤ) (m : ℕ) (k : Option Remark) → read_int s at ≡ ints.Got z m k → Taken mask s at (num (pos (of_z w32 z))) m
   mask_taken z m k e =
       let g = int_taken z m k e in
       record {
@@ -157,7 +158,7 @@ module _ (s : List ℕ) (at : ℕ) (h : at ≤ length s) where
 
   -- ---- arguments
 
-  args_taken : (n m : ℕ) (k : Remark) → read_int s at ≡ ints.Got (pos n) m k → (ps : List Part) (next : ℕ) → args_from n s [] m ≡ got ps next
+  args_taken : (n m : ℕ) (k : Option Remark) → read_int s at ≡ ints.Got (pos n) m k → (ps : List Part) (next : ℕ) → args_from n s [] m ≡ got ps next
       → Taken args s at (strings ps) next
   args_taken n m k e ps next a =
       let i = int_taken (pos n) m k e in

@@ -1,15 +1,15 @@
 -- How many of the integers in some fields have a remark. docs/FORMAT.md, "Integers": remarks never refuse.
-use Rattle.std.specs.Prelude.{ℕ, ◌+◌, List, [], ◌∷◌}
+use Rattle.std.specs.Prelude.{ℕ, ◌+◌, List, [], ◌∷◌, Some, None}
 use Rattle.varint.specs.Integers.{read_int}
-use Rattle.varint.specs.declared.Remark.TheVariants.{None, Overlong, Padding}
+use Rattle.varint.specs.declared.Remark.TheVariants.{Overlong, Padding}
 use Rattle.varint.specs.declared.IntRead.{IntRead}
 use Rattle.varint.specs.declared.IntRead.TheVariants as ints
 use Rattle.fields.specs.Fields.{Field, int, dt, mask, str, uuid, blob, args, Reading, got, runs_out, refused, read_field}
 
 abbrev pub remark_in : IntRead → ℕ
 remark_in (ints.Got z next None) = 0
-remark_in (ints.Got z next Overlong) = 1
-remark_in (ints.Got z next Padding) = 1
+remark_in (ints.Got z next (Some Overlong)) = 1
+remark_in (ints.Got z next (Some Padding)) = 1
 remark_in ints.RunsOut = 0
 
 -- data and arguments begin with an integer too

@@ -1,4 +1,5 @@
 -- A rewind under way by what the code tests. Assumes nothing.
+use Rattle.std.specs.Prelude.{Option, Result, Ok, Err}
 use Prim.Native.Nat.{ℕ, ◌+◌, ◌-◌, ◌≤◌, ◌<◌, min}
 use mathlib.Core.Path.{◌≡◌, refl, sym, ap, ◌∙◌}
 use mathlib.Core.Bool.{Bool, true, false, false≢true, cond, ◌&&◌}
@@ -14,15 +15,12 @@ use Rattle.state.proofs.Every.{left_of_law, right_of, by_cond}
 use Rattle.state.proofs.Numbers.{picks_second}
 use Rattle.teams.specs.declared.TeamReader.{TeamReader}
 use Rattle.back.specs.TeamBoard.{team_board_of, good_team_board}
-use Rattle.back.specs.declared.BoardTick.{BoardTick}
 use Rattle.back.specs.declared.TeamBoard.{TeamBoard}
 use Rattle.reel.specs.Reel.{good_counts, counts_of, undo_in, rows_of}
 use Rattle.reel.specs.declared.Counts.{Counts}
 use Rattle.reel.specs.declared.Reel.{Reel}
 use Rattle.rewinding.specs.Rewinding.{is_start, sought_in, blank_board}
 use Rattle.rewinding.specs.Walk.{Walked, walk, rows_from}
-use Rattle.rewinding.specs.declared.Sought.{Sought}
-use Rattle.rewinding.specs.declared.Sought.TheVariants as soughts
 use Rattle.going.specs.Going.{
   progress_of,
   rewind_of,
@@ -48,21 +46,21 @@ use Rattle.going.proofs.Walks.{walk_go, walk_within}
 -- ---- starting, by what the search answers
 
 module _ (r : TeamReader) (l : Reel) (t : ℤ) where
-  starts : (x : Sought) → x ≡ sought_in r l t → start_of (team_board_of r) l t x ≡ start_rewind r l t
+  starts : (x : Result ℕ Refusal) → x ≡ sought_in r l t → start_of (team_board_of r) l t x ≡ start_rewind r l t
   unfolding start_rewind
   starts x e = ap (start_of (team_board_of r) l t) e
 
-  module _ (n : ℕ) (found : soughts.Newer n ≡ sought_in r l t) (b : TeamBoard) (copy : b ≡ team_board_of r) where
+  module _ (n : ℕ) (found : Ok n ≡ sought_in r l t) (b : TeamBoard) (copy : b ≡ team_board_of r) where
     pub started : record { answer = answers.Started; rewind = rewind_of b l (progress_of t n false) } ≡ start_rewind r l t
-    started = rw copy (starts (soughts.Newer n) found)
+    started = rw copy (starts (Ok n) found)
 
     pub started_is : (a : LentStart) → a ≡ record { answer = answers.Started; board = b; progress = progress_of t n false } → (own : Reel)
         → StartIs (start_rewind r l t) l own a l
     started_is a e own = rw (← started, e) (record { answer = refl; board = refl; progress = refl; own = refl })
 
-  module _ (why : Refusal) (sought : soughts.Refused why ≡ sought_in r l t) where
+  module _ (why : Refusal) (sought : Err why ≡ sought_in r l t) where
     pub refused : record { answer = answers.Refused why; rewind = no_rewind } ≡ start_rewind r l t
-    refused = starts (soughts.Refused why) sought
+    refused = starts (Err why) sought
 
     pub refused_is : (a : LentStart) → a ≡ record { answer = answers.Refused why; board = blank_board; progress = progress_of (pos 0) 0 false }
         → (own : Reel) → StartIs (start_rewind r l t) l own a own
@@ -145,7 +143,7 @@ module _ (w : Rewind) (n : ℕ) (g : Bool) (good : g ≡ (good_team_board w.boar
 
 -- ---- what is left after k rows were stepped over: f is the flag that the next one fitted
 
-module _ (f : Bool) (t : BoardTick) (p k : ℕ) (counts : Counts) (w : Progress) where
+module _ (f : Bool) (t : Option ℤ) (p k : ℕ) (counts : Counts) (w : Progress) where
   pub left_misfit : f ≡ false
       → record { answer = going.Refused NotLast; tick = t; counts = counts_of p (counts.count - k); progress = progress_of w.tick (w.newer - k) true }
       ≡ lent_of f t p k counts w

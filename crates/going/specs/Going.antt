@@ -1,6 +1,6 @@
 -- A rewind under way: it goes so many events a call, and between calls its copy of the board can be looked at. docs/FORMAT.md, "A rewind
 -- under way".
-use Rattle.std.specs.Prelude.{ℕ, zero, suc, ◌-◌, Bool, true, false, cond, ◌&&◌, List, [], ◌∷◌, eqb, ℤ, pos}
+use Rattle.std.specs.Prelude.{ℕ, zero, suc, ◌-◌, Bool, true, false, cond, ◌&&◌, List, [], ◌∷◌, eqb, ℤ, pos, Result, Ok, Err}
 use Rattle.refusal.specs.declared.Refusal.{Refusal}
 use Rattle.refusal.specs.declared.Refusal.TheVariants.{BadState, NotLast, TickGone}
 use Rattle.teams.specs.declared.TeamReader.{TeamReader}
@@ -10,8 +10,6 @@ use Rattle.taking.specs.Taking.{team_taken_from}
 use Rattle.reel.specs.Reel.{Row, place_before, counts_of, reel_of, good_reel, row_at, rows_of, empty_reel}
 use Rattle.reel.specs.declared.Reel.{Reel}
 use Rattle.rewinding.specs.Rewinding.{is_start, back_row, sought_in, blank_board}
-use Rattle.rewinding.specs.declared.Sought.{Sought}
-use Rattle.rewinding.specs.declared.Sought.TheVariants as soughts
 use Rattle.going.specs.declared.Progress.{Progress}
 use Rattle.going.specs.declared.Rewind.{Rewind}
 use Rattle.going.specs.declared.StartAnswer.TheVariants as starts
@@ -32,9 +30,9 @@ rewind_of b l k = record { board = b; reel = l; progress = k }
 abbrev pub no_rewind : Rewind
 no_rewind = rewind_of blank_board empty_reel (progress_of (pos 0) 0 false)
 
-abbrev pub start_of : TeamBoard → Reel → ℤ → Sought → Start
-start_of b l t (soughts.Newer n) = record { answer = starts.Started; rewind = rewind_of b l (progress_of t n false) }
-start_of b l t (soughts.Refused r) = record { answer = starts.Refused r; rewind = no_rewind }
+abbrev pub start_of : TeamBoard → Reel → ℤ → Result ℕ Refusal → Start
+start_of b l t (Ok n) = record { answer = starts.Started; rewind = rewind_of b l (progress_of t n false) }
+start_of b l t (Err r) = record { answer = starts.Refused r; rewind = no_rewind }
 
 -- 17 (reader, reel), 18, 20
 unfoldable pub start_rewind : TeamReader → Reel → ℤ → Start

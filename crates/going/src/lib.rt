@@ -13,10 +13,10 @@ ghost use Rattle.going.specs.steps.Places.{places_before, lent_of};
 ghost use Rattle.going.specs.declared.StartAnswer.TheVariants as starts;
 ghost use Rattle.going.specs.declared.GoAnswer.TheVariants as answers;
 
-use back::{BoardTick, TeamBoard};
+use back::TeamBoard;
 use reel::{Counts, Reel};
 use refusal::Refusal;
-use rewinding::{Over, Sought};
+use rewinding::Over;
 use teams::TeamReader;
 
 // The tick, how many rows of the own reel are newer than its TickStart, and whether an event didn't fit.
@@ -73,7 +73,7 @@ pub struct Go {
 #[derive(Clone, Copy)]
 pub struct LentGo {
     pub answer: GoAnswer,
-    pub tick: BoardTick,
+    pub tick: Option<i32>,
     pub counts: Counts,
     pub progress: Progress,
 }
@@ -127,13 +127,13 @@ pub fn start_lent(
         (reel_of counts own_rows.new own_inputs.new own_formers.new) }
 {
     match rewinding::seek(reader, counts, rows, tick) {
-        Sought::Newer(newer) => {
+        Ok(newer) => {
             *own_rows = *rows;
             *own_inputs = *inputs;
             *own_formers = *formers;
             started(back::team_board_of(reader), tick, newer)
         }
-        Sought::Refused(why) => refuse_start(why),
+        Err(why) => refuse_start(why),
     }
 }
 
@@ -163,7 +163,7 @@ fn has_start(counts: Counts, rows: &[i32; 5120], tick: i32, newer: usize) -> boo
 
 // Whether the copy and the own reel are not refused 17.
 fn good_rewind<'a>(
-    tick: BoardTick,
+    tick: Option<i32>,
     marks: &'a [u8; 128],
     xs: &'a [i32; 128],
     ys: &'a [i32; 128],
@@ -193,7 +193,7 @@ fn least(a: usize, b: usize) -> usize
     b
 }
 
-fn refuse(why: Refusal, tick: BoardTick, counts: Counts, progress: Progress) -> LentGo
+fn refuse(why: Refusal, tick: Option<i32>, counts: Counts, progress: Progress) -> LentGo
     ensures { result ≡ record { answer = answers.Refused why; tick = tick; counts = counts; progress = progress } }
 {
     LentGo {
@@ -253,7 +253,7 @@ fn went(over: Over, counts: Counts, progress: Progress) -> LentGo
 // it has ended, else it is still going. Refused 17 (copy, reel), 20 (the TickStart isn't in its place), with nothing changed; 19 at the first event that
 // doesn't fit, before which the copy stays, and from then on by every call.
 pub fn go_lent(
-    tick: BoardTick,
+    tick: Option<i32>,
     marks: &mut [u8; 128],
     xs: &mut [i32; 128],
     ys: &mut [i32; 128],

@@ -1,4 +1,5 @@
 -- A rewind under way beside a reader (specs/Beside.antt). Assumes nothing.
+use Rattle.std.specs.Prelude.{Result, Ok, Err}
 use Prim.Native.Nat.{ℕ, ◌+◌, ◌-◌, ◌≤◌, ◌<◌, min}
 use mathlib.Core.Path.{◌≡◌, refl, sym, subst, ap, ◌∙◌}
 use mathlib.Core.Bool.{Bool, true, false, cond}
@@ -26,8 +27,6 @@ use Rattle.reel.proofs.Ring.{rows_length, rows_taken}
 use Rattle.reeling.specs.Laws.{row_of}
 use Rattle.rewinding.specs.Rewinding.{newer, gone, newer_than, step_over, closed_by_refusal, sought_of, sought_in}
 use Rattle.rewinding.specs.Walk.{Walked, walk}
-use Rattle.rewinding.specs.declared.Sought.{Sought}
-use Rattle.rewinding.specs.declared.Sought.TheVariants as soughts
 use Rattle.rewinding.proofs.Rewinds.{sought_newer}
 use Rattle.rewinding.proofs.Search.{found_below}
 use Rattle.rewinding.proofs.Walks.{walk_over}
@@ -49,11 +48,11 @@ use Rattle.going_laws.proofs.Cuts.{newer_cut}
 
 -- ---- what is sought
 
-in_room : (b : Bool) (n : ℕ) → sought_of (cond b (newer n) gone) ≡ cond b (soughts.Newer n) (soughts.Refused TickGone)
+in_room : (b : Bool) (n : ℕ) → sought_of (cond b (newer n) gone) ≡ cond b (Ok n) (Err TickGone)
 in_room true n = refl
 in_room false n = refl
 
-not_newer : {r : Refusal} {n : ℕ} → soughts.Refused r ≡ soughts.Newer n → ⊥
+not_newer : {r : Refusal} {n : ℕ} → Err r ≡ Ok n → ⊥
 not_newer e = let z : ◌≡◌ {A = ℕ} 0 1 = cc in absurd (omega arith)
 
 module _ (v : Version) (before since : List Call) (t : ℤ) where
@@ -76,12 +75,12 @@ module _ (v : Version) (before since : List Call) (t : ℤ) where
   had_in never (none q) = rw q
   had_in (had b n) (some upto behind e q) = rw q (in_room (ltb n 512) n)
 
-  sought : sought_in to kept t ≡ cond refused_reader (soughts.Refused Closed) (sought_had (had_after t from since))
+  sought : sought_in to kept t ≡ cond refused_reader (Err Closed) (sought_had (had_after t from since))
   unfolding sought_in
   sought =
       rw (goods v before since, rows_are v before since, newer_take t 512 (rows v before since), had_in (had_after t from since) (split t since from))
 
-  begins : start_rewind to kept t ≡ start_of (team_board_of to) kept t (cond refused_reader (soughts.Refused Closed) (sought_had (had_after t from since)))
+  begins : start_rewind to kept t ≡ start_of (team_board_of to) kept t (cond refused_reader (Err Closed) (sought_had (had_after t from since)))
   unfolding start_rewind
   begins = ap (start_of (team_board_of to) kept t) sought
 
@@ -94,13 +93,13 @@ module _ (v : Version) (before since : List Call) (t : ℤ) where
     pub before_it : BoardBefore m from since board
 
   found_by : (c : Bool) (h : Had) → refused_reader ≡ c → had_after t from since ≡ h → Split t from since h → (m : ℕ)
-      → cond c (soughts.Refused Closed) (sought_had h) ≡ soughts.Newer m → Found m
+      → cond c (Err Closed) (sought_had h) ≡ Ok m → Found m
   found_by true h c a s m e = absurd (not_newer e)
   found_by false never c a s m e = absurd (not_newer e)
   found_by false (had b n) c a (some upto behind cut q) m e =
       by_bool (ltb n 512)
       (λ lt.
-      let f : soughts.Newer n ≡ soughts.Newer m = rw lt at e in
+      let f : Ok n ≡ Ok m = rw lt at e in
       let same : n ≡ m = cc in
       record {
         unrefused = c;
@@ -113,7 +112,7 @@ module _ (v : Version) (before since : List Call) (t : ℤ) where
 
   -- ---- what was started
 
-  module _ (m : ℕ) (e : sought_in to kept t ≡ soughts.Newer m) where
+  module _ (m : ℕ) (e : sought_in to kept t ≡ Ok m) where
     found : Found m
     found = found_by refused_reader (had_after t from since) refl refl (split t since from) m (sym sought ∙ e)
 
@@ -199,10 +198,10 @@ module _ (v : Version) (before since : List Call) (t : ℤ) where
     shows_split n ms =
         subst (Shows t from since under (n + total ms)) (sym (splits_add under (record { entries = (sound v before since).reader.sizes; teams = (sound v before since).teams.size }) n ms)) (shows (n + total ms))
 
-  shows_by : (x : Sought) → sought_in to kept t ≡ x → (start_of (team_board_of to) kept t x).answer ≡ starts.Started → (n : ℕ) (ms : List ℕ)
+  shows_by : (x : Result ℕ Refusal) → sought_in to kept t ≡ x → (start_of (team_board_of to) kept t x).answer ≡ starts.Started → (n : ℕ) (ms : List ℕ)
       → let w = (start_of (team_board_of to) kept t x).rewind in Shows t from since w (n + total ms) (go_each w n ms)
-  shows_by (soughts.Newer m) e h = shows_split m e
-  shows_by (soughts.Refused r) e h = let z : ◌≡◌ {A = ℕ} 0 1 = cc in absurd (omega arith)
+  shows_by (Ok m) e h = shows_split m e
+  shows_by (Err r) e h = let z : ◌≡◌ {A = ℕ} 0 1 = cc in absurd (omega arith)
 
   shows_started : (start_rewind to kept t).answer ≡ starts.Started → (n : ℕ) (ms : List ℕ)
       → let w = (start_rewind to kept t).rewind in Shows t from since w (n + total ms) (go_each w n ms)

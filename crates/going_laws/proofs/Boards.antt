@@ -1,4 +1,5 @@
 -- A good board stays good, with the lengths of its arrays, where an event is taken off it. Assumes nothing.
+use Rattle.std.specs.Prelude.{Option, Some, None}
 use Prim.Native.Nat.{ℕ, ◌+◌, ◌*◌, ◌≤◌, ◌<◌}
 use mathlib.Core.Path.{◌≡◌, refl, sym, ap, ◌∙◌}
 use mathlib.Core.Bool.{Bool, true, false, not, cond, ◌&&◌}
@@ -48,8 +49,6 @@ use Rattle.state.proofs.Ten.{ten_at, put_other, ten_put}
 use Rattle.state.proofs.Board.{good_placed, good_cleared, good_input_law, size_player, size_input}
 use Rattle.back.specs.Board.{board, tick_of, board_of, good_tick, good_board}
 use Rattle.back.specs.Back.{Back, was, refused, only_if, in_tick, no_tick, of_client, former_input, same_all, take_off}
-use Rattle.back.specs.declared.BoardTick.{BoardTick}
-use Rattle.back.specs.declared.BoardTick.TheVariants.{In, NoTick}
 use Rattle.back.specs.declared.Board.{Board}
 use Rattle.back.specs.declared.TeamBoard.{TeamBoard}
 use Rattle.back.specs.TeamBoard.{TeamBack, team_board_of, good_team_board, beside, fits_teams, teams_before, take_off_team}
@@ -57,7 +56,6 @@ use Rattle.back.specs.TeamBoard as teamed
 use Rattle.refusal.specs.declared.Refusal.TheVariants.{NotLast}
 use Rattle.teams.specs.Teams.{good_teams, Joining, joins, nobody, joining_of, good_team_reader}
 use Rattle.teams.specs.Laws.{SoundTeams}
-use Rattle.teams.specs.declared.Team.{Team}
 use Rattle.teams.specs.declared.TeamReader.{TeamReader}
 use Rattle.teams.proofs.Theorems.{put_sound}
 use Rattle.going_laws.specs.Laws.{BoardSizes}
@@ -117,7 +115,7 @@ record Fine (b : Board) : Type 0 where
   good : good_board b ≡ true
   sizes : Sizes b.entries
 
-fine : (k : BoardTick) (e : Entries) → good_tick k ≡ true → good_entries e ≡ true → Sizes e → Fine (board k e)
+fine : (k : Option ℤ) (e : Entries) → good_tick k ≡ true → good_entries e ≡ true → Sizes e → Fine (board k e)
 unfolding good_board
 fine k e t g s = record { good = and_both _ _ t g; sizes = s }
 
@@ -134,13 +132,13 @@ of_client_law : (z : ℤ) (f : ℕ → Back) → ((c : ℕ) → Leaves (f c)) �
 of_client_law (pos c) f l = l c
 of_client_law (negsuc c) f l = tt
 
-in_tick_law : (k : BoardTick) (f : ℤ → Back) → good_tick k ≡ true → ((t : ℤ) → non_neg t ≡ true → Leaves (f t)) → Leaves (in_tick k f)
-in_tick_law (In t) f g l = l t g
-in_tick_law NoTick f g l = tt
+in_tick_law : (k : Option ℤ) (f : ℤ → Back) → good_tick k ≡ true → ((t : ℤ) → non_neg t ≡ true → Leaves (f t)) → Leaves (in_tick k f)
+in_tick_law (Some t) f g l = l t g
+in_tick_law None f g l = tt
 
-no_tick_law : (k : BoardTick) (x : Back) → Leaves x → Leaves (no_tick k x)
-no_tick_law (In t) x l = tt
-no_tick_law NoTick x l = l
+no_tick_law : (k : Option ℤ) (x : Back) → Leaves x → Leaves (no_tick k x)
+no_tick_law (Some t) x l = tt
+no_tick_law None x l = l
 
 -- the tests of a client's entry
 abbrev stands_at : Entries → ℤ → ℤ → ℕ → Bool
@@ -156,19 +154,19 @@ holds_ten e ten c = holds e c && same_all (ten_of e.inputs c) ten
 has_entry : (c : ℕ) (t r : Bool) → ((ltb c 128 && t) && r) ≡ true → c < 128
 has_entry c t r q = ltb-true c 128 (left_of_law (ltb c 128) t (left_of_law (ltb c 128 && t) r q))
 
-module _ (ten former : List ℤ) (k : BoardTick) (e : Entries) (t : good_tick k ≡ true) (g : good_entries e ≡ true) (s : Sizes e) where
-  placed : (i : ℤ) → non_neg i ≡ true → (c : ℕ) (x y : ℤ) → c < 128 → Fine (board (In i) (with_player e c 1 x y))
-  placed i h c x y q = fine (In i) (with_player e c 1 x y) h (good_placed e g c x y (omega (arith, s.marks))) (size_player e s c 1 x y)
+module _ (ten former : List ℤ) (k : Option ℤ) (e : Entries) (t : good_tick k ≡ true) (g : good_entries e ≡ true) (s : Sizes e) where
+  placed : (i : ℤ) → non_neg i ≡ true → (c : ℕ) (x y : ℤ) → c < 128 → Fine (board (Some i) (with_player e c 1 x y))
+  placed i h c x y q = fine (Some i) (with_player e c 1 x y) h (good_placed e g c x y (omega (arith, s.marks))) (size_player e s c 1 x y)
 
-  former_put : (i : ℤ) → non_neg i ≡ true → (c : ℕ) (had : Bool) → c < 128 → Fine (board (In i) (former_input e c had former))
-  former_put i h c had q = fine (In i) (former_input e c had former) h (good_former e g s c q had former) (size_former e g s c q had former)
+  former_put : (i : ℤ) → non_neg i ≡ true → (c : ℕ) (had : Bool) → c < 128 → Fine (board (Some i) (former_input e c had former))
+  former_put i h c had q = fine (Some i) (former_input e c had former) h (good_former e g s c q had former) (size_former e g s c q had former)
 
   off : (u : Event) → Leaves (take_off u ten former k e)
-  off (tick_start u) = in_tick_law k _ t (λ i h. only (same_int i u) _ (λ q. fine NoTick e refl g s))
-  off (tick_end u) = no_tick_law k _ (only (non_neg u) _ (λ q. fine (In u) e q g s))
+  off (tick_start u) = in_tick_law k _ t (λ i h. only (same_int i u) _ (λ q. fine None e refl g s))
+  off (tick_end u) = no_tick_law k _ (only (non_neg u) _ (λ q. fine (Some u) e q g s))
   off (player_new z x y) =
       in_tick_law k _ t
-      (λ i h. of_client_law z _ (λ c. only (stands_at e x y c) _ (λ q. fine (In i) _ h (good_cleared e g c) (size_player e s c 0 (pos 0) (pos 0)))))
+      (λ i h. of_client_law z _ (λ c. only (stands_at e x y c) _ (λ q. fine (Some i) _ h (good_cleared e g c) (size_player e s c 0 (pos 0) (pos 0)))))
   off (player_change z x y old-x old-y) =
       in_tick_law k _ t
       (λ i h. of_client_law z _ (λ c. only (stands_at e x y c) _ (λ q. placed i h c old-x old-y (has_entry c _ _ q))))
@@ -177,7 +175,7 @@ module _ (ten former : List ℤ) (k : BoardTick) (e : Entries) (t : good_tick k 
       (λ i h. of_client_law z _ (λ c. only (absent e c) _ (λ q. placed i h c x y (ltb-true c 128 (left_of_law (ltb c 128) (not (present e c)) q)))))
   off (input z had) =
       in_tick_law k _ t (λ i h. of_client_law z _ (λ c. only (holds_ten e ten c) _ (λ q. former_put i h c had (has_entry c _ _ q))))
-  off (other r) = in_tick_law k _ t (λ i h. fine (In i) e h g s)
+  off (other r) = in_tick_law k _ t (λ i h. fine (Some i) e h g s)
 
 leaves : (u : Event) (ten former : List ℤ) (b : Board) → Fine b → Leaves (take_off u ten former b.tick b.entries)
 unfolding good_board
@@ -213,7 +211,7 @@ unfolding good_team_board
 beside_fine t s (was b) f = record { good = and_both _ _ f.good s.good; sizes = record { entries = f.sizes; teams = s.size } }
 beside_fine t s (refused r) f = tt
 
-before_sound : (j : Joining) (m : Team) (t : List ℤ) → SoundTeams t → SoundTeams (teams_before j m t)
+before_sound : (j : Joining) (m : Option ℤ) (t : List ℤ) → SoundTeams t → SoundTeams (teams_before j m t)
 before_sound (joins c n) m t s = put_sound t c m s
 before_sound nobody m t s = s
 
@@ -221,7 +219,7 @@ by_fits : (b : Bool) (x : TeamBack) → TeamLeaves x → TeamLeaves (cond b x (t
 by_fits true x l = l
 by_fits false x l = tt
 
-pub team_leaves : (u : Event) (ten former : List ℤ) (m : Team) (b : TeamBoard) → TeamFine b → TeamLeaves (take_off_team u ten former m b)
+pub team_leaves : (u : Event) (ten former : List ℤ) (m : Option ℤ) (b : TeamBoard) → TeamFine b → TeamLeaves (take_off_team u ten former m b)
 unfolding take_off_team good_team_board
 team_leaves u ten former m b f =
     let board_good = left_of_law (good_board b.board) (good_teams b.teams) f.good in

@@ -1,4 +1,5 @@
 -- Calls cut in two, with any number of their events behind the cut. Assumes nothing.
+use Rattle.std.specs.Prelude.{Option, ℤ}
 use Prim.Native.Nat.{ℕ, ◌≤◌, ◌<◌}
 use mathlib.Core.Path.{◌≡◌, refl, ap, ◌∙◌}
 use mathlib.Core.List.{List, [], ◌∷◌, ◌++◌, map}
@@ -9,7 +10,6 @@ use borrow.Author.Tests.{leb-true, leb-false}
 use Rattle.num.proofs.Cases.{by_bool}
 use Rattle.item.specs.Said.{Said, gives, more, finish, refuses}
 use Rattle.state.specs.Reading.{Event}
-use Rattle.teams.specs.declared.Team.{Team}
 use Rattle.teams.specs.declared.TeamReader.{TeamReader}
 use Rattle.calls.specs.Calls.{Call, Seen, seen_in}
 use Rattle.team_calls.specs.Lists.{team_seen, call_team, next_team, team_event_of, team_after, team_events}
@@ -30,7 +30,7 @@ behind_one r c cs k b p =
     record { upto = c ∷ p.upto; behind = p.behind; cut = ap (λ (l : List Call). c ∷ l) p.cut; number = p.number; board = p.board }
 
 -- a call gives at most one event
-by_said : (x : Said Event) (m : Team) (by : Event → ℕ → Seen) → length (map (team_seen m) (seen_in x by)) ≤ 1
+by_said : (x : Said Event) (m : Option ℤ) (by : Event → ℕ → Seen) → length (map (team_seen m) (seen_in x by)) ≤ 1
 by_said (gives e n) m by = omega arith
 by_said more m by = omega arith
 by_said (finish n) m by = omega arith

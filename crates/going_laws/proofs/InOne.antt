@@ -1,4 +1,5 @@
 -- Rewinding is a start and one call over enough events. Assumes nothing.
+use Rattle.std.specs.Prelude.{Result, Ok, Err}
 use Prim.Native.Nat.{ℕ, suc, ◌-◌, ◌≤◌, ◌<◌}
 use mathlib.Core.Path.{◌≡◌, refl, sym, ap, ◌∙◌}
 use mathlib.Core.Bool.{Bool, true, false, cond, false≢true, ◌&&◌}
@@ -38,8 +39,6 @@ use Rattle.rewinding.specs.Rewinding.{
   rewind_to,
 }
 use Rattle.rewinding.specs.Walk.{Walked, walk}
-use Rattle.rewinding.specs.declared.Sought.{Sought}
-use Rattle.rewinding.specs.declared.Sought.TheVariants as soughts
 use Rattle.rewinding.proofs.Walks.{walk_over}
 use Rattle.going.specs.Going.{progress_of, rewind_of, start_of, start_rewind, start_behind, go_on}
 use Rattle.going_laws.specs.Laws.{answer_of, RewindsInOne}
@@ -76,13 +75,13 @@ pub record Tested (r : TeamReader) (l : Reel) (t : ℤ) (n : ℕ) : Type 0 where
   pub reel : good_reel l ≡ true
   pub start : start_behind t n (rows_of l) ≡ true
 
-abbrev SoughtIs : TeamReader → Reel → ℤ → Sought → Type 0
-SoughtIs r l t (soughts.Newer n) = Tested r l t n
-SoughtIs r l t (soughts.Refused x) = Unit {0}
+abbrev SoughtIs : TeamReader → Reel → ℤ → Result ℕ Refusal → Type 0
+SoughtIs r l t (Ok n) = Tested r l t n
+SoughtIs r l t (Err x) = Unit {0}
 
 module _ (r : TeamReader) (l : Reel) (t : ℤ) where
   sought_by : (g c : Bool) (y : Newer) → (good_team_reader r && good_reel l) ≡ g → There t (rows_of l) y
-      → SoughtIs r l t (cond g (cond c (soughts.Refused Closed) (sought_of y)) (soughts.Refused BadState))
+      → SoughtIs r l t (cond g (cond c (Err Closed) (sought_of y)) (Err BadState))
   sought_by true false (newer n) e h =
       let good = and_split (good_team_reader r) (good_reel l) e in
       record { board = reader_board r good.0; reel = good.1; start = h }
@@ -157,29 +156,29 @@ module _ (r : TeamReader) (l : Reel) (t : ℤ) (m : ℕ) (h : Tested r l t m) (n
 -- ---- both, by what the start has found
 
 module _ (r : TeamReader) (l : Reel) (t : ℤ) where
-  abbrev Begins : Sought → Type 0
+  abbrev Begins : Result ℕ Refusal → Type 0
   Begins s = (start_of (team_board_of r) l t s).answer ≡ starts.Started
 
-  abbrev Enough : Sought → ℕ → Type 0
+  abbrev Enough : Result ℕ Refusal → ℕ → Type 0
   Enough s n = (start_of (team_board_of r) l t s).rewind.progress.newer ≤ n
 
-  refuses_by : (s : Sought) (x : Refusal) → (start_of (team_board_of r) l t s).answer ≡ starts.Refused x → step_back_to (rows_of l) (team_board_of r) s ≡ refused x
-  refuses_by (soughts.Newer m) x e = let z : ◌≡◌ {A = ℕ} 0 1 = cc in absurd (omega arith)
-  refuses_by (soughts.Refused y) x e = let q : y ≡ x = cc in rw q
+  refuses_by : (s : Result ℕ Refusal) (x : Refusal) → (start_of (team_board_of r) l t s).answer ≡ starts.Refused x → step_back_to (rows_of l) (team_board_of r) s ≡ refused x
+  refuses_by (Ok m) x e = let z : ◌≡◌ {A = ℕ} 0 1 = cc in absurd (omega arith)
+  refuses_by (Err y) x e = let q : y ≡ x = cc in rw q
 
-  enough_by : (s : Sought) → SoughtIs r l t s → (start_of (team_board_of r) l t s).rewind.progress.newer < 512
-  enough_by (soughts.Newer m) h = below_room r l t m h
-  enough_by (soughts.Refused y) h = omega arith
+  enough_by : (s : Result ℕ Refusal) → SoughtIs r l t s → (start_of (team_board_of r) l t s).rewind.progress.newer < 512
+  enough_by (Ok m) h = below_room r l t m h
+  enough_by (Err y) h = omega arith
 
-  answers_by : (s : Sought) → SoughtIs r l t s → Begins s → (n : ℕ) → Enough s n
+  answers_by : (s : Result ℕ Refusal) → SoughtIs r l t s → Begins s → (n : ℕ) → Enough s n
       → (go_on (start_of (team_board_of r) l t s).rewind n).answer ≡ answer_of (step_back_to (rows_of l) (team_board_of r) s)
-  answers_by (soughts.Newer m) h b n e = call_answers r l t m h n e
-  answers_by (soughts.Refused y) h b n e = let z : ◌≡◌ {A = ℕ} 0 1 = cc in absurd (omega arith)
+  answers_by (Ok m) h b n e = call_answers r l t m h n e
+  answers_by (Err y) h b n e = let z : ◌≡◌ {A = ℕ} 0 1 = cc in absurd (omega arith)
 
-  copy_by : (s : Sought) → SoughtIs r l t s → Begins s → (n : ℕ) → Enough s n → (a : TeamBoard) → step_back_to (rows_of l) (team_board_of r) s ≡ was a
+  copy_by : (s : Result ℕ Refusal) → SoughtIs r l t s → Begins s → (n : ℕ) → Enough s n → (a : TeamBoard) → step_back_to (rows_of l) (team_board_of r) s ≡ was a
       → (go_on (start_of (team_board_of r) l t s).rewind n).rewind.board ≡ a
-  copy_by (soughts.Newer m) h b n e = call_copies r l t m h n e
-  copy_by (soughts.Refused y) h b n e = let z : ◌≡◌ {A = ℕ} 0 1 = cc in absurd (omega arith)
+  copy_by (Ok m) h b n e = call_copies r l t m h n e
+  copy_by (Err y) h b n e = let z : ◌≡◌ {A = ℕ} 0 1 = cc in absurd (omega arith)
 
 pub in_one : RewindsInOne
 unfolding start_rewind rewind_to

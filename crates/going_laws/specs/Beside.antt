@@ -1,6 +1,7 @@
 -- A rewind under way beside a reader, with a reel that was filled without a gap, over the lists of calls of demand 3; proofs/Beside.antt
 -- proves it. docs/FORMAT.md, "A rewind under way".
-use Rattle.std.specs.Prelude.{ℕ, ◌+◌, min, ◌≤◌, ◌≡◌, cond, List, ◌++◌, length, ltb, ℤ}
+use Rattle.std.specs.Prelude.{ℕ, ◌+◌, min, ◌≤◌, ◌≡◌, cond, List, ◌++◌, length, ltb, ℤ, Result, Ok, Err}
+use Rattle.refusal.specs.declared.Refusal.{Refusal}
 use Rattle.refusal.specs.declared.Refusal.TheVariants.{Closed, TickGone}
 use Rattle.kinds.specs.declared.Version.{Version}
 use Rattle.teams.specs.Teams.{empty_team_reader}
@@ -12,8 +13,6 @@ use Rattle.back.specs.declared.TeamBoard.{TeamBoard}
 use Rattle.reel.specs.Reel.{empty_reel}
 use Rattle.reeling.specs.Reeling.{reel_after}
 use Rattle.rewinding.specs.Rewinding.{closed_by_refusal}
-use Rattle.rewinding.specs.declared.Sought.{Sought}
-use Rattle.rewinding.specs.declared.Sought.TheVariants as soughts
 use Rattle.rewind_laws.specs.Laws.{Had, had, never, had_after}
 use Rattle.going.specs.Going.{start_of, start_rewind}
 use Rattle.going.specs.declared.Rewind.{Rewind}
@@ -31,9 +30,9 @@ pub record BoardBefore (k : ℕ) (r : TeamReader) (since : List Call) (b : TeamB
   pub board : b ≡ team_board_of (team_after r upto)
 
 -- where the TickStart of a tick stands, if it is among the last 512 events, else 20
-abbrev pub sought_had : Had → Sought
-sought_had (had b since) = cond (ltb since 512) (soughts.Newer since) (soughts.Refused TickGone)
-sought_had never = soughts.Refused TickGone
+abbrev pub sought_had : Had → Result ℕ Refusal
+sought_had (had b since) = cond (ltb since 512) (Ok since) (Err TickGone)
+sought_had never = Err TickGone
 
 -- what a rewind that was started answers and shows after n events: g is what the last call answered and left
 pub record Shows (t : ℤ) (r : TeamReader) (since : List Call) (w : Rewind) (n : ℕ) (g : Go) : Type 0 where
@@ -50,7 +49,7 @@ pub record Goes (v : Version) (before since : List Call) : Type 0 where
   pub begins : (t : ℤ) → let r = team_after (empty_team_reader v) before in
       let l = reel_after empty_reel r since in
       start_rewind (team_after r since) l t
-      ≡ start_of (team_board_of (team_after r since)) l t (cond (closed_by_refusal (team_after r since).reader.scalars.standing) (soughts.Refused Closed) (sought_had (had_after t r since)))
+      ≡ start_of (team_board_of (team_after r since)) l t (cond (closed_by_refusal (team_after r since).reader.scalars.standing) (Err Closed) (sought_had (had_after t r since)))
   pub shows : (t : ℤ) → let r = team_after (empty_team_reader v) before in
       let s = start_rewind (team_after r since) (reel_after empty_reel r since) t in
       s.answer ≡ starts.Started → (n : ℕ) (ms : List ℕ) → Shows t r since s.rewind (n + total ms) (go_each s.rewind n ms)

@@ -19,17 +19,16 @@ ghost use Rattle.std.specs.Prelude.{◌<◌};
 
 use crate::both::{go, none, walk_both};
 use crate::same::go_number;
-use back::{BoardTick, TeamBoard};
+use back::TeamBoard;
 use feed::Hand;
 use going::{Go, GoAnswer, Rewind, Start, StartAnswer};
-use kinds::{Version, VersionOf};
-use lookups::{InputOf, Pos};
+use kinds::Version;
+use lookups::Pos;
 use reel::{Counts, Reel};
 use refusal::Refusal;
 use rewinding::{RewindAnswer, Rewound};
-use teams::{Team, TeamReader};
+use teams::TeamReader;
 use texts::Text;
-use varint::Wrote;
 
 const STDOUT_FILENO: i32 = 1;
 
@@ -66,7 +65,7 @@ fn print_gone(answer: GoAnswer) {
 
 fn print_board(answer: GoAnswer, board: TeamBoard) {
     let mut text = [0u8; 27036];
-    let Wrote::Past(n) = board_lines::write_gone(answer, board, &mut text, 0) else {
+    let Ok(n) = board_lines::write_gone(answer, board, &mut text, 0) else {
         return;
     };
     say(cases::window(&text, 0, n));
@@ -231,33 +230,32 @@ fn board_step(rewind: Rewind, events: usize) -> Rewind {
 
 // ---- looking at the copy
 
-fn print_pos(pos: Pos) {
+fn print_pos(pos: Option<Pos>) {
     match pos {
-        Pos::At { x, y } => print(texts::plain(b"at", &[x, y])),
-        Pos::NoPos => say(b"nowhere\n"),
+        Some(Pos { x, y }) => print(texts::plain(b"at", &[x, y])),
+        None => say(b"nowhere\n"),
     }
 }
 
-fn print_input(looked: InputOf) {
-    let ten = looked.input;
-    if looked.there {
+fn print_input(looked: Option<[i32; 10]>) {
+    if let Some(ten) = looked {
         print(texts::plain(b"has", &ten));
         return;
     }
     say(b"no inputs\n");
 }
 
-fn print_team(team: Team) {
+fn print_team(team: Option<i32>) {
     match team {
-        Team::Number(n) => print(texts::plain(b"team", &[n])),
-        Team::NoTeam => say(b"team -\n"),
+        Some(n) => print(texts::plain(b"team", &[n])),
+        None => say(b"team -\n"),
     }
 }
 
 fn look_step(rewind: Rewind, cid: i32) -> Rewind {
     match rewinds::tick(rewind) {
-        BoardTick::In(t) => print(texts::plain(b"tick", &[t])),
-        BoardTick::NoTick => say(b"tick -\n"),
+        Some(t) => print(texts::plain(b"tick", &[t])),
+        None => say(b"tick -\n"),
     }
     print_pos(rewinds::player_pos(rewind, cid));
     print_input(rewinds::input(rewind, cid));
@@ -375,8 +373,8 @@ fn run_body(version: Version, body: &[u8], case: &[u8]) {
 fn run_case(case: &[u8]) {
     let input = cases::window(case, 2 + 6 * step_count(case), case.len());
     match kinds::version_of(cases::first(input)) {
-        VersionOf::Is(version) => run_body(version, cases::window(input, 1, input.len()), case),
-        VersionOf::Refused(why) => print(texts::refused(why)),
+        Ok(version) => run_body(version, cases::window(input, 1, input.len()), case),
+        Err(why) => print(texts::refused(why)),
     }
 }
 

@@ -7,7 +7,7 @@ ghost use Rattle.state.specs.State.{entries_with, good_pending, good_scalars, re
 ghost use Rattle.state.specs.steps.Parts.{good_kind};
 
 use kinds::{Kind, Version};
-use state::{Pending, Scalars};
+use state::Scalars;
 
 fn at_least(low: i32, x: i32) -> bool
     ensures { result ≡ le_z low x }
@@ -37,10 +37,10 @@ fn good_kind(version: Version, kind: Kind) -> bool
     }
 }
 
-fn good_pending(version: Version, pending: Pending) -> bool
+fn good_pending(version: Version, pending: Option<Kind>) -> bool
     ensures { result ≡ good_pending version pending }
 {
-    let Pending::Is(kind) = pending else {
+    let Some(kind) = pending else {
         return true;
     };
     good_kind(version, kind)

@@ -1,4 +1,5 @@
 -- The identifiers of the extensions and the magic: 16 bytes each, and an identifier names its extension. Assumes nothing.
+use Rattle.std.specs.Prelude.{Some, None}
 use Prim.Native.Nat.{ℕ, ◌<◌}
 use mathlib.Core.Path.{◌≡◌, refl}
 use mathlib.Core.Bool.{true}
@@ -7,7 +8,6 @@ use lib.ListN.{length}
 use Rattle.kinds.specs.Magic.{same_bytes, magic}
 use Rattle.extensions.specs.Extensions.{extension_row, id_at, all, find_in, find}
 use Rattle.extensions.specs.declared.Extension.{Extension}
-use Rattle.extensions.specs.declared.Found.TheVariants.{Known, Unknown}
 use Rattle.extensions.proofs.Each.{each, tested}
 use Rattle.ids.specs.steps.Table.{Sixteen}
 use Rattle.ids.proofs.ByHalves.{is_id, sixteen}
@@ -26,12 +26,12 @@ pub magic_sixteen : Sixteen magic
 unfolding magic
 magic_sixteen = sixteen magic refl
 
-pub id_found : (e : Extension) → find (id_at e) ≡ Known e
+pub id_found : (e : Extension) → find (id_at e) ≡ Some e
 unfolding find find_in same_bytes id_at extension_row all
 id_found =
-    each (λ e. find (id_at e) ≡ Known e)
+    each (λ e. find (id_at e) ≡ Some e)
     (refl, (refl, (refl, (refl, (refl, (refl, (refl, (refl, (refl, (refl, (refl, (refl, (refl, (refl, (refl, (refl, (refl, (refl, (refl, (refl, tt))))))))))))))))))))
 
-pub none_found : find [] ≡ Unknown
+pub none_found : find [] ≡ None
 unfolding find find_in same_bytes id_at extension_row all
 none_found = refl

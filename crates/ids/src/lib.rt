@@ -9,8 +9,7 @@ ghost use Rattle.kinds.specs.Views.{magic_is};
 ghost use Rattle.extensions.specs.Extensions.{id_at, find};
 ghost use Rattle.ids.specs.steps.Table.{big_endian, halves_with, halves, TellsSame};
 
-use extensions::{Extension, Found};
-use kinds::MagicRead;
+use extensions::Extension;
 use refusal::Refusal;
 
 // 16 bytes as two numbers, which are compared at once; an array would be copied wherever it is used.
@@ -126,35 +125,35 @@ fn same_bytes(s: &[u8], at: usize, id: Halves) -> bool
 }
 
 // Which of the 20 extensions the 16 bytes at a place name; none if they reach outside the window.
-pub fn find_id(s: &[u8], at: usize) -> Found
+pub fn find_id(s: &[u8], at: usize) -> Option<Extension>
     ensures { result ≡ find (shown s.now (id_part at)) }
 {
     if s.len() < at {
-        return Found::Unknown;
+        return None;
     }
     if s.len() - at < 16 {
-        return Found::Unknown;
+        return None;
     }
     let mut k = 0;
     while k < 20 {
         let which = extensions::extension_at(k);
         if same_bytes(s, at, id_halves(which)) {
-            return Found::Known(which);
+            return Some(which);
         }
         k += 1;
     }
-    Found::Unknown
+    None
 }
 
 // The magic call: 16 bytes used, or a refusal.
-pub fn read_magic(s: &[u8]) -> MagicRead
+pub fn read_magic(s: &[u8]) -> Result<usize, Refusal>
     ensures { magic_is result ≡ read_magic s.now }
 {
     if s.len() < 16 {
-        return MagicRead::Refused(Refusal::UnexpectedEnd);
+        return Err(Refusal::UnexpectedEnd);
     }
     if same_bytes(s, 0, magic_halves()) {
-        return MagicRead::Used(16);
+        return Ok(16);
     }
-    MagicRead::Refused(Refusal::WrongMagic)
+    Err(Refusal::WrongMagic)
 }

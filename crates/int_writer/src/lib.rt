@@ -7,7 +7,6 @@ ghost use Rattle.varint.specs.Written.{sign_bit, extend, first_byte, later_byte,
 ghost use Rattle.varint.specs.steps.Writing.{wrote};
 
 use refusal::Refusal;
-use varint::Wrote;
 
 // The number without its sign: all 32 bits inverted where it is negative.
 fn magnitude(value: i32) -> u32
@@ -72,16 +71,16 @@ pub fn int_size(value: i32) -> usize
 }
 
 // The integer's written form into the target, at a place.
-pub fn write_int(value: i32, out: &mut [u8], at: usize) -> Wrote
+pub fn write_int(value: i32, out: &mut [u8], at: usize) -> Result<usize, Refusal>
     ensures answer { result ≡ wrote out.old at (canonical value) }
     ensures target { out.new ≡ written out.old at (canonical value) }
 {
     let count = int_size(value);
     if out.len() < at {
-        return Wrote::Refused(Refusal::ShortTarget);
+        return Err(Refusal::ShortTarget);
     }
     if out.len() - at < count {
-        return Wrote::Refused(Refusal::ShortTarget);
+        return Err(Refusal::ShortTarget);
     }
     out[at] = first_byte(value);
     let mut rest = magnitude(value) / 64;
@@ -91,5 +90,5 @@ pub fn write_int(value: i32, out: &mut [u8], at: usize) -> Wrote
         rest = rest / 128;
         i += 1;
     }
-    Wrote::Past(i)
+    Ok(i)
 }

@@ -1,5 +1,5 @@
 -- The records that the code hands out: for each, which it is and the values that stand in it. docs/FORMAT.md, "Records" and rule 5.
-use Rattle.std.specs.Prelude.{cond, List, [], ◌∷◌, ◌++◌, map, get_or, take, ℤ, pos}
+use Rattle.std.specs.Prelude.{cond, List, [], ◌∷◌, ◌++◌, map, get_or, take, ℤ, pos, Option, Some, None}
 use Rattle.packer.specs.declared.Part.{Part}
 use Rattle.fields.specs.Fields.{Field, blob, Value, num, bytes, strings, on_num}
 use Rattle.fields.specs.Views.{zeros, args_with}
@@ -14,8 +14,6 @@ use Rattle.kinds.specs.declared.Kind.{Kind}
 use Rattle.kinds.specs.declared.Kind.TheVariants as kinds
 use Rattle.item.specs.declared.Tag.{Tag}
 use Rattle.item.specs.declared.Tag.TheVariants.{Plain, Named, Other}
-use Rattle.kinds.specs.declared.Cid.{Cid}
-use Rattle.kinds.specs.declared.Cid.TheVariants.{Of, NoCid}
 use Rattle.item.specs.declared.Item.{Item}
 use Rattle.item.specs.declared.Item.TheVariants as items
 use Rattle.item.specs.declared.Record.{Record}
@@ -63,11 +61,11 @@ by_tag f g x Other = x
 
 -- ---- the client of a record, or none
 
-abbrev pub tag_cid : Tag → ℤ → Cid
-tag_cid t z = by_tag (λ k. kind_cid k z) (λ e. cond (has_client e) (Of z) NoCid) NoCid t
+abbrev pub tag_cid : Tag → ℤ → Option ℤ
+tag_cid t z = by_tag (λ k. kind_cid k z) (λ e. cond (has_client e) (Some z) None) None t
 
 -- by its first number; the largest client rises to it (rule 5)
-abbrev pub cid_of : Content Part → Cid
+abbrev pub cid_of : Content Part → Option ℤ
 cid_of c = tag_cid c.tag (on_num (pos 0) (λ z. z) (get_or c.values 0 (num (pos 0))))
 
 -- the fields of an extension

@@ -1,5 +1,5 @@
 -- Records: kind, then fields; an extension's data is read by itself. docs/FORMAT.md, "Records".
-use Rattle.std.specs.Prelude.{ℕ, Bool, List, [], ◌∷◌, ◌++◌, map, take}
+use Rattle.std.specs.Prelude.{ℕ, Bool, List, [], ◌∷◌, ◌++◌, map, take, Option, Some, None}
 use Rattle.packer.specs.Parts.{shown, read_raw, read_data}
 use Rattle.packer.specs.declared.Part.{Part}
 use Rattle.fields.specs.Fields.{
@@ -22,8 +22,6 @@ use Rattle.item.specs.Said.{Said, gives, refusing, out_of_bytes}
 use Rattle.kinds.specs.Kinds.{read_kind, Beside, by_beside, kind_row}
 use Rattle.extensions.specs.Extensions.{Payload, shaped, all_data, find, payload_at}
 use Rattle.extensions.specs.declared.Extension.{Extension}
-use Rattle.extensions.specs.declared.Found.{Found}
-use Rattle.extensions.specs.declared.Found.TheVariants.{Known, Unknown}
 use Rattle.kinds.specs.declared.Version.{Version}
 use Rattle.kinds.specs.declared.Kind.{Kind}
 use Rattle.item.specs.declared.Tag.{Tag}
@@ -61,9 +59,9 @@ of_payload s p e (shaped fs) next = with_got (as_content (Named e) (read_fields 
 of_payload s p e all_data next = got (content (Named e) (bytes p ∷ [])) next
 
 -- by what is found of the identifier
-abbrev pub of_found : List ℕ → Part → Part → Found → ℕ → Reading (Content Part)
-of_found s id p (Known e) next = of_payload s p e (payload_at e) next
-of_found s id p Unknown next = got (content Other (bytes id ∷ bytes p ∷ [])) next
+abbrev pub of_found : List ℕ → Part → Part → Option Extension → ℕ → Reading (Content Part)
+of_found s id p (Some e) next = of_payload s p e (payload_at e) next
+of_found s id p None next = got (content Other (bytes id ∷ bytes p ∷ [])) next
 
 -- an extension: 16 bytes of identifier, then data
 unfoldable pub read_ex : List ℕ → ℕ → Reading (Content Part)

@@ -1,5 +1,6 @@
 -- The remarks on a record's integers, and the spare bytes of an extension's data. docs/FORMAT.md, "Round trips".
-use Rattle.std.specs.Prelude.{ℕ, ◌+◌, ◌-◌, List, ◌++◌, take}
+use Rattle.std.specs.Prelude.{ℕ, ◌+◌, ◌-◌, List, ◌++◌, take, Option, Some, None}
+use Rattle.extensions.specs.declared.Extension.{Extension}
 use Rattle.varint.specs.Integers.{read_int}
 use Rattle.varint.specs.declared.IntRead.{IntRead}
 use Rattle.packer.specs.Parts.{shown, read_raw, read_data}
@@ -10,17 +11,15 @@ use Rattle.kinds.specs.Kinds.{read_kind, by_client, kind_row}
 use Rattle.kinds.specs.declared.Kind.{Kind}
 use Rattle.kinds.specs.declared.Version.{Version}
 use Rattle.extensions.specs.Extensions.{Payload, shaped, all_data, find, payload_at}
-use Rattle.extensions.specs.declared.Found.{Found}
-use Rattle.extensions.specs.declared.Found.TheVariants.{Known, Unknown}
 use Rattle.item.specs.Records.{Rest, fields, extension, rest_of}
 
 abbrev pub payload_remarks : List ℕ → Part → Payload → ℕ → ℕ
 payload_remarks s p (shaped fs) next = remarks fs (take next s) p.at + if_got (read_fields fs (take next s) p.at) (λ vs end. next - end)
 payload_remarks s p all_data next = 0
 
-abbrev pub found_remarks : List ℕ → Part → Found → ℕ → ℕ
-found_remarks s p (Known e) next = payload_remarks s p (payload_at e) next
-found_remarks s p Unknown next = 0
+abbrev pub found_remarks : List ℕ → Part → Option Extension → ℕ → ℕ
+found_remarks s p (Some e) next = payload_remarks s p (payload_at e) next
+found_remarks s p None next = 0
 
 unfoldable pub ex_remarks : List ℕ → ℕ → ℕ
 ex_remarks s at =

@@ -8,7 +8,7 @@ ghost use Rattle.item.specs.steps.Taken.{taken_of, TakenApart};
 
 use extensions::Extension;
 use fields::Args;
-use kinds::{Cid, Kind};
+use kinds::Kind;
 use packer::Part;
 use shapes::Fields;
 
@@ -377,7 +377,7 @@ impl Item {
     }
 
     // The client of the record, or none.
-    pub fn cid(self) -> Cid
+    pub fn cid(self) -> Option<i32>
         ensures { result ≡ cid_of (item_of self) }
     {
         let t = self.take_apart();
@@ -387,11 +387,11 @@ impl Item {
             Tag::Plain(kind) => kind.cid(first),
             Tag::Named(which) => {
                 if extensions::has_client(which) {
-                    return Cid::Of(first);
+                    return Some(first);
                 }
-                Cid::NoCid
+                None
             }
-            Tag::Other => Cid::NoCid,
+            Tag::Other => None,
         }
     }
 

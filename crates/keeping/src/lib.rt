@@ -13,7 +13,7 @@ ghost use Rattle.keeping.specs.steps.Lent.{Stored, kept_is};
 use reel::{Counts, KeepAnswer, KeptReel, Reel};
 use refusal::Refusal;
 use state::Event;
-use teams::{Joining, Team};
+use teams::PlayerTeam;
 
 // What is answered, and the counts of the reel that is left.
 #[derive(Clone, Copy)]
@@ -83,12 +83,12 @@ fn flag_of(b: bool) -> i32
 }
 
 // The row of a record, in its place.
-fn put_record(rows: &mut [i32; 5120], p: usize, joining: Joining, team: Team)
+fn put_record(rows: &mut [i32; 5120], p: usize, joining: Option<PlayerTeam>, team: Option<i32>)
     requires { p < 512 }
     ensures { rows.new ≡ put_ten rows.old p (numbers_of (undo_joining (joining_is joining) team)) }
 {
     match joining {
-        Joining::Joins { cid, team: number } => put_row(
+        Some(PlayerTeam { cid, team: number }) => put_row(
             rows,
             p,
             8,
@@ -98,7 +98,7 @@ fn put_record(rows: &mut [i32; 5120], p: usize, joining: Joining, team: Team)
             teams::number_for(team),
             0,
         ),
-        Joining::Nobody => put_row(rows, p, 7, 0, 0, 0, 0, 0),
+        None => put_row(rows, p, 7, 0, 0, 0, 0, 0),
     }
 }
 
@@ -106,7 +106,7 @@ fn put_record(rows: &mut [i32; 5120], p: usize, joining: Joining, team: Team)
 fn store(
     p: usize,
     event: Event,
-    team: Team,
+    team: Option<i32>,
     input: &[i32; 10],
     former: &[i32; 10],
     rows: &mut [i32; 5120],
@@ -142,7 +142,7 @@ fn store(
 pub fn keep_lent(
     counts: Counts,
     event: Event,
-    team: Team,
+    team: Option<i32>,
     input: &[i32; 10],
     former: &[i32; 10],
     rows: &mut [i32; 5120],
@@ -175,7 +175,13 @@ pub fn keep_lent(
 }
 
 // The same for a reel by value.
-pub fn keep(reel: Reel, event: Event, input: [i32; 10], former: [i32; 10], team: Team) -> KeptReel
+pub fn keep(
+    reel: Reel,
+    event: Event,
+    input: [i32; 10],
+    former: [i32; 10],
+    team: Option<i32>,
+) -> KeptReel
     ensures { result ≡ keeping reel (event_is event) input former team }
 {
     let counts = reel.counts;

@@ -1,10 +1,8 @@
 -- Kinds. docs/FORMAT.md, "Records": 0 and above PlayerDiff of that client; -1 Finish; .. -11 extension, version 2 only.
-use Rattle.std.specs.Prelude.{ℕ, zero, suc, ◌+◌, Bool, true, false, cond, List, [], ◌∷◌, ℤ, pos, negsuc}
+use Rattle.std.specs.Prelude.{ℕ, zero, suc, ◌+◌, Bool, true, false, cond, List, [], ◌∷◌, ℤ, pos, negsuc, Option, Some, None}
 use Rattle.refusal.specs.declared.Refusal.TheVariants.{UnknownType}
 use Rattle.varint.specs.Integers.{read_int}
 use Rattle.fields.specs.Fields.{Field, int, dt, mask, str, blob, Reading, got, refused, with_int}
-use Rattle.kinds.specs.declared.Cid.{Cid}
-use Rattle.kinds.specs.declared.Cid.TheVariants.{Of, NoCid}
 use Rattle.kinds.specs.declared.Version.{Version}
 use Rattle.kinds.specs.declared.Version.TheVariants.{V1, V2}
 use Rattle.kinds.specs.declared.Kind.{Kind}
@@ -124,5 +122,5 @@ abbrev pub sort_of : Kind → Sort
 sort_of k = (kind_row k).sort
 
 -- the client of a record of a kind, whose first number this is
-abbrev pub kind_cid : Kind → ℤ → Cid
-kind_cid k z = by_client NoCid Of Of (Of z) (kind_row k).client
+abbrev pub kind_cid : Kind → ℤ → Option ℤ
+kind_cid k z = by_client None Some Some (Some z) (kind_row k).client

@@ -17,12 +17,6 @@ pub enum Version {
     V2,
 }
 
-#[derive(Clone, Copy)]
-pub enum VersionOf {
-    Is(Version),
-    Refused(Refusal),
-}
-
 // What a record is, by its first integer; the client belongs to the kind of a player record.
 #[derive(Clone, Copy)]
 pub enum Kind {
@@ -83,22 +77,22 @@ impl Kind {
     }
 
     // The client of a record of this kind whose first number this is, or none.
-    pub fn cid(self, first: i32) -> Cid
+    pub fn cid(self, first: i32) -> Option<i32>
         ensures { result ≡ kind_cid self first }
     {
         match self {
-            Kind::PlayerDiff(cid) => Cid::Of(cid),
-            Kind::Finish => Cid::NoCid,
-            Kind::TickSkip => Cid::NoCid,
-            Kind::PlayerNew(cid) => Cid::Of(cid),
-            Kind::PlayerOld(cid) => Cid::Of(cid),
-            Kind::InputDiff => Cid::Of(first),
-            Kind::InputNew => Cid::Of(first),
-            Kind::Message => Cid::Of(first),
-            Kind::Join => Cid::Of(first),
-            Kind::Drop => Cid::Of(first),
-            Kind::ConsoleCommand => Cid::Of(first),
-            Kind::Ex => Cid::NoCid,
+            Kind::PlayerDiff(cid) => Some(cid),
+            Kind::Finish => None,
+            Kind::TickSkip => None,
+            Kind::PlayerNew(cid) => Some(cid),
+            Kind::PlayerOld(cid) => Some(cid),
+            Kind::InputDiff => Some(first),
+            Kind::InputNew => Some(first),
+            Kind::Message => Some(first),
+            Kind::Join => Some(first),
+            Kind::Drop => Some(first),
+            Kind::ConsoleCommand => Some(first),
+            Kind::Ex => None,
         }
     }
 }
@@ -110,26 +104,13 @@ pub enum KindRead {
     Refused(Refusal),
 }
 
-#[derive(Clone, Copy)]
-pub enum MagicRead {
-    Used(usize),
-    Refused(Refusal),
-}
-
-// A client, or none.
-#[derive(Clone, Copy)]
-pub enum Cid {
-    Of(i32),
-    NoCid,
-}
-
-pub fn version_of(number: i32) -> VersionOf
+pub fn version_of(number: i32) -> Result<Version, Refusal>
     ensures { version_is result ≡ version_of number }
 {
     match number {
-        1 => VersionOf::Is(Version::V1),
-        2 => VersionOf::Is(Version::V2),
-        _ => VersionOf::Refused(Refusal::UnknownVersion),
+        1 => Ok(Version::V1),
+        2 => Ok(Version::V2),
+        _ => Err(Refusal::UnknownVersion),
     }
 }
 

@@ -5,7 +5,7 @@
 ghost use Rattle.std.specs.Prelude.{◌≡◌, ◌<◌, length};
 
 use feed::Hand;
-use kinds::{Version, VersionOf};
+use kinds::Version;
 use ladder_turns::After;
 use lines::Ending;
 use packer::Part;
@@ -13,7 +13,6 @@ use refusal::Refusal;
 use results::Results;
 use state::Reader;
 use std::io::Read;
-use varint::Wrote;
 
 const STDOUT_FILENO: i32 = 1;
 
@@ -123,7 +122,7 @@ fn climb(first: Left, input: &mut impl Read, buf: &mut [u8]) -> Left {
 
 fn print_list(list: Results, ending: Ending) {
     let mut text = [0u8; 5286];
-    let Wrote::Past(n) = result_lines::write_list(list, ending, &mut text, 0) else {
+    let Ok(n) = result_lines::write_list(list, ending, &mut text, 0) else {
         return;
     };
     print(&text, n);
@@ -167,8 +166,8 @@ fn refused(refusal: Refusal, hand: Hand) -> Left {
 // The version byte.
 fn behind_version(number: i32, hand: Hand) -> Left {
     match kinds::version_of(number) {
-        VersionOf::Is(version) => first_left(version, hand, After::GoesOn, true),
-        VersionOf::Refused(refusal) => refused(refusal, hand),
+        Ok(version) => first_left(version, hand, After::GoesOn, true),
+        Err(refusal) => refused(refusal, hand),
     }
 }
 

@@ -1,8 +1,7 @@
 -- The ladder program on the bytes at hand: one turn; its list and its text of a whole body. docs/FORMAT.md, "The ladder program".
-use Rattle.std.specs.Prelude.{ℕ, ◌+◌, ◌≤◌, ◌≡◌, Bool, true, false, cond, List, ◌++◌, length, take, drop}
+use Rattle.std.specs.Prelude.{ℕ, ◌+◌, ◌≤◌, ◌≡◌, Bool, true, false, cond, List, ◌++◌, length, take, drop, Result, Ok}
+use Rattle.refusal.specs.declared.Refusal.{Refusal}
 use Rattle.refusal.specs.Numbers.{number_of}
-use Rattle.varint.specs.declared.Wrote.{Wrote}
-use Rattle.varint.specs.declared.Wrote.TheVariants.{Past}
 use Rattle.kinds.specs.declared.Version.{Version}
 use Rattle.state.specs.State.{empty_reader}
 use Rattle.state.specs.declared.Reader.{Reader}
@@ -104,15 +103,15 @@ pub record LadderText (v : Version) (body text : List ℕ) : Type 0 where
   pub same : text ≡ list_text ordered (others_in (ladder_finishes v body)) ending
 
 -- such a text stands in a target at a place, with room around it; the answer is the place past it
-pub record TextAt (v : Version) (body out₀ : List ℕ) (at : ℕ) (r : Wrote) (out₁ : List ℕ) : Type 0 where
+pub record TextAt (v : Version) (body out₀ : List ℕ) (at : ℕ) (r : Result ℕ Refusal) (out₁ : List ℕ) : Type 0 where
   pub text : List ℕ
   pub is : LadderText v body text
-  pub answer : r ≡ Past (at + length text)
+  pub answer : r ≡ Ok (at + length text)
   pub target : out₁ ≡ take at out₀ ++ text ++ drop (at + length text) out₀
 
 -- the list of a body and how it ends, written where the longest text fits, are a text that the program may print
 abbrev pub ListText : Type 0
 ListText =
-    (v : Version) (body : List ℕ) (ending : Ending) (out₀ : List ℕ) (at : ℕ) (r : Wrote) (out₁ : List ℕ)
+    (v : Version) (body : List ℕ) (ending : Ending) (out₀ : List ℕ) (at : ℕ) (r : Result ℕ Refusal) (out₁ : List ℕ)
     → last_is ending ≡ ladder_last v body → at + longest_list ≤ length out₀ → WritesList (ladder_list v body) ending out₀ at r out₁
     → TextAt v body out₀ at r out₁

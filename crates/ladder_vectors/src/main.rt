@@ -3,19 +3,18 @@
 #![tactic(auto)]
 
 use feed::Hand;
-use kinds::{Version, VersionOf};
+use kinds::Version;
 use ladder_turns::After;
 use lines::Ending;
 use results::Results;
 use state::Reader;
-use varint::Wrote;
 
 const STDOUT_FILENO: i32 = 1;
 
 // The text of a list.
 fn print_list(list: Results, ending: Ending) {
     let mut text = [0u8; 5286];
-    let Wrote::Past(n) = result_lines::write_list(list, ending, &mut text, 0) else {
+    let Ok(n) = result_lines::write_list(list, ending, &mut text, 0) else {
         return;
     };
     io::write_all(STDOUT_FILENO, cases::window(&text, 0, n));
@@ -92,8 +91,8 @@ fn run_body(version: Version, body: &[u8]) {
 
 fn run_case(input: &[u8]) {
     match kinds::version_of(cases::first(input)) {
-        VersionOf::Is(version) => run_body(version, cases::window(input, 1, input.len())),
-        VersionOf::Refused(refusal) => print_list(Results::empty(), Ending::Refused(refusal)),
+        Ok(version) => run_body(version, cases::window(input, 1, input.len())),
+        Err(refusal) => print_list(Results::empty(), Ending::Refused(refusal)),
     }
 }
 

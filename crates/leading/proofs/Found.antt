@@ -1,4 +1,5 @@
 -- A written record at the front of a window is read again, with its kind or behind a pending kind, whatever follows. Assumes nothing.
+use Rattle.std.specs.Prelude.{Some, None}
 use Prim.Native.Nat.{ℕ, ◌+◌, ◌≤◌}
 use mathlib.Core.Path.{◌≡◌, refl, sym, ◌∙◌, ap}
 use mathlib.Core.Bool.{true}
@@ -32,7 +33,6 @@ use Rattle.written.proofs.KindLaws.{Allowed, kind_back}
 use Rattle.written.proofs.Frames.{end_at, load_at, framed}
 use Rattle.state.specs.Reading.{next_kind}
 use Rattle.state.specs.Acts.{HadKind, Had}
-use Rattle.state.specs.declared.Pending.TheVariants.{Is, NoKind}
 use Rattle.state.specs.declared.Scalars.{Scalars}
 
 -- behind its kind, a record of kind k is read from a place to byte n: its tag is t, and its values mean ms
@@ -114,12 +114,12 @@ module _ {k : Kind} {t : Tag} {ms : List (Value (List ℕ))} (s : Scalars) (form
       record { values = b.values; had = record { at = at; kind = h; rest = b.reads }; same = b.same }
 
   -- the kind is read first
-  pub kind_had : s.pending ≡ NoKind → (behind : List ℕ) → HadKind s (kind_bytes k ++ behind) k (length (kind_bytes k))
+  pub kind_had : s.pending ≡ None → (behind : List ℕ) → HadKind s (kind_bytes k ++ behind) k (length (kind_bytes k))
   unfolding next_kind
   kind_had p behind =
       record { read = rw p ((kind_back s.version (kind_bytes k ++ behind) behind 0 k form.client form.allowed refl).reads ∙ rw zero-add) }
 
-  pub read_found : s.pending ≡ NoKind → (behind : List ℕ)
+  pub read_found : s.pending ≡ None → (behind : List ℕ)
       → Found s ((kind_bytes k ++ form.values) ++ behind) k t ms (length (kind_bytes k ++ form.values))
   read_found p behind =
       let c = kind_bytes k in
@@ -128,7 +128,7 @@ module _ {k : Kind} {t : Tag} {ms : List (Value (List ℕ))} (s : Scalars) (form
       (values_found (c ++ (ws ++ behind)) behind (length c) (kind_had p (ws ++ behind)) (simp (length-append) (omega arith)) (drop-append_seam c (ws ++ behind)))
 
   -- the kind was pending
-  pub pending_found : s.pending ≡ Is k → (behind : List ℕ) → Found s (form.values ++ behind) k t ms (length form.values)
+  pub pending_found : s.pending ≡ Some k → (behind : List ℕ) → Found s (form.values ++ behind) k t ms (length form.values)
   unfolding next_kind
   pending_found p behind =
       rw zero-add at (values_found (form.values ++ behind) behind 0 (record { read = rw p }) (omega arith) refl)

@@ -1,4 +1,5 @@
 -- Each written record on a reader that has nothing pending, and bytes one behind the other. Assumes nothing.
+use Rattle.std.specs.Prelude.{Option, Some}
 use Prim.Native.Nat.{ℕ, suc, ◌≤◌, ◌<◌}
 use mathlib.Core.Path.{◌≡◌, refl, sym, ◌∙◌, ap}
 use mathlib.Core.Bool.{Bool, true, false, not}
@@ -19,8 +20,6 @@ use Rattle.fields.specs.Forms.{AllSorted, all_writable}
 use Rattle.fields.specs.Views.{ten_fields, numbers}
 use Rattle.kinds.specs.Kinds.{has_ex}
 use Rattle.kinds.specs.Magic.{same_bytes}
-use Rattle.kinds.specs.declared.Cid.{Cid}
-use Rattle.kinds.specs.declared.Cid.TheVariants.{Of}
 use Rattle.kinds.specs.declared.Version.{Version}
 use Rattle.kinds.specs.declared.Version.TheVariants.{V2}
 use Rattle.kinds.specs.declared.Kind.{Kind}
@@ -39,7 +38,6 @@ use Rattle.state.specs.Reading.{raising, naming, skipping, next_tick, at_or_belo
 use Rattle.state.specs.Acts.{wants_tick, MayCome}
 use Rattle.state.specs.Acts as act
 use Rattle.state.specs.declared.Entries.{Entries}
-use Rattle.state.specs.declared.Next.TheVariants.{Tick}
 use Rattle.state.specs.declared.Scalars.{Scalars}
 use Rattle.state.specs.declared.Reader.{Reader}
 use Rattle.teams.specs.Teams.{Joining, joins, nobody, is_player_team, joining_in}
@@ -81,7 +79,7 @@ two_numbers v k x y e f o fx fy = fields_form v k (int ∷ int ∷ []) [] _ e f 
 player_leads : (r : Reader) (c : ℕ) → Ready r → Rises r c → {k : Kind} {ms : List (Value (List ℕ))} (d : Entries) → Form r.scalars.version k (Plain k) ms
     → wants_tick k ≡ true
     → ((s : Scalars) → MayCome s (pos c) → (w : List ℕ) (last : Bool) (n : ℕ) → Found s w k (Plain k) ms n → Acts s r.entries w last n nobody (reader_with (naming (pos c) s) d))
-    → Leaves r (write_content (content (Plain k) ms)) (Of (pos c)) d
+    → Leaves r (write_content (content (Plain k) ms)) (Some (pos c)) d
 unfolding naming
 player_leads r c ready rises d form wants acts =
     leads_on r ready
@@ -133,7 +131,7 @@ old_leads r c ready small rises is-there =
 -- by its act on scalars inside a tick; z is the record's client, j what it says of a team
 raising_leads : (r : Reader) → Ready r → {k : Kind} {t : Tag} {ms : List (Value (List ℕ))} (z : ℤ) (j : Joining) (d : Entries)
     → Form r.scalars.version k t ms → wants_tick k ≡ true
-    → ((s : Scalars) → s.inside ≡ true → (w : List ℕ) (last : Bool) (n : ℕ) → Found s w k t ms n → Acts s r.entries w last n j (reader_with (raising (Of z) s) d))
+    → ((s : Scalars) → s.inside ≡ true → (w : List ℕ) (last : Bool) (n : ℕ) → Found s w k t ms n → Acts s r.entries w last n j (reader_with (raising (Some z) s) d))
     → LeadsWith r (write_content (content t ms)) r.scalars.tick true r.scalars.remembered d (after_joining j)
 unfolding raising
 raising_leads r ready z j d form wants acts =
@@ -141,7 +139,7 @@ raising_leads r ready z j d form wants acts =
     (record {
       form = form;
       wants = wants;
-      turns = raising (Of z);
+      turns = raising (Some z);
       behind = λ s p. record { tick = refl; inside = refl; remembered = p; pending = refl; standing = refl };
       acts = λ s i p. acts s i;
     })
@@ -186,7 +184,7 @@ command_leads r ready =
       act = act.passes g.had (record { extension = false; sort = refl }) i;
       uses = refl;
       says = refl;
-      leaves = ap (λ z. reader_with (raising (Of z) s) r.entries) (first_meant w g.values (negsuc 0) _ g.same);
+      leaves = ap (λ z. reader_with (raising (Some z) s) r.entries) (first_meant w g.values (negsuc 0) _ g.same);
     })
 
 -- ---- a team
@@ -204,7 +202,7 @@ team_joins : (c n : ℤ) → joining_in (content (Named PlayerTeam) (num c ∷ n
 unfolding is_player_team same_bytes id_at extension_row numbers
 team_joins c n = refl
 
-team_client : (c n : ℤ) → cid_of (content (Named PlayerTeam) (num c ∷ num n ∷ [])) ≡ Of c
+team_client : (c n : ℤ) → cid_of (content (Named PlayerTeam) (num c ∷ num n ∷ [])) ≡ Some c
 unfolding has_client extension_row
 team_client c n = refl
 
@@ -217,7 +215,7 @@ team_leads r c n ready two small fits =
       act = act.passes (numbers_found (pos c ∷ n ∷ []) g) (record { extension = true; sort = refl }) i;
       uses = refl;
       says = team_joins (pos c) n;
-      leaves = ap (λ (z : Cid). reader_with (raising z s) r.entries) (team_client (pos c) n);
+      leaves = ap (λ (z : Option ℤ). reader_with (raising z s) r.entries) (team_client (pos c) n);
     })
 
 -- ---- a skip
@@ -226,7 +224,7 @@ skip_form : (v : Version) (n : ℕ) → n < 2147483648 → Form v kinds.TickSkip
 skip_form v n h =
     fields_form v kinds.TickSkip (dt ∷ []) [] _ refl tt refl (omega arith, tt) (rw (le-leb n 2147483647 (omega arith)))
 
-module _ (r : Reader) (k : ℕ) (t : ℤ) (ready : Ready r) (fits : k < 2147483648) (next : next_tick r.scalars.tick k ≡ Tick t) where
+module _ (r : Reader) (k : ℕ) (t : ℤ) (ready : Ready r) (fits : k < 2147483648) (next : next_tick r.scalars.tick k ≡ Some t) where
   abbrev skipped : Reader
   skipped = reader_with (skipping t (not r.scalars.inside) r.scalars) r.entries
 

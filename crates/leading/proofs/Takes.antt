@@ -1,4 +1,5 @@
 -- A call on an open reader by its act; the calls that a record takes inside a tick and outside. Assumes nothing.
+use Rattle.std.specs.Prelude.{Option, None}
 use Prim.Native.Nat.{ℕ}
 use mathlib.Core.Path.{◌≡◌, refl, sym, ◌∙◌, ap}
 use mathlib.Core.Bool.{Bool, true, false}
@@ -6,7 +7,6 @@ use mathlib.Core.List.{List, [], ◌∷◌, ◌++◌, append-nil}
 use lib.ListN.{length}
 use lib.IntN.{ℤ}
 use Rattle.fields.specs.Fields.{Value}
-use Rattle.kinds.specs.declared.Cid.{Cid}
 use Rattle.kinds.specs.declared.Version.{Version}
 use Rattle.kinds.specs.declared.Kind.{Kind}
 use Rattle.item.specs.Records.{content}
@@ -19,7 +19,6 @@ use Rattle.state.specs.Acts as act
 use Rattle.state.specs.Laws.{Sound}
 use Rattle.state.specs.steps.Parts.{memory_of}
 use Rattle.state.specs.declared.Entries.{Entries}
-use Rattle.state.specs.declared.Pending.TheVariants.{NoKind}
 use Rattle.state.specs.declared.Standing.TheVariants.{Open}
 use Rattle.state.specs.declared.Scalars.{Scalars}
 use Rattle.state.specs.declared.Reader.{Reader}
@@ -69,16 +68,16 @@ module _ (r : Reader) (ok : Reading r) where
 -- ---- records that come inside a tick
 
 -- the scalars behind such a record
-pub record Behind (s t : Scalars) (p : Cid) : Type 0 where
+pub record Behind (s t : Scalars) (p : Option ℤ) : Type 0 where
   pub tick : t.tick ≡ s.tick
   pub inside : t.inside ≡ s.inside
   pub remembered : t.remembered ≡ p
-  pub pending : t.pending ≡ NoKind
+  pub pending : t.pending ≡ None
   pub standing : t.standing ≡ s.standing
 
 -- what a record of kind k with the tag t and the values ms does inside a tick: where p was remembered and the entries were e, q is remembered
 -- and they are d; it says j of a team
-pub record Does (v : Version) (k : Kind) (t : Tag) (ms : List (Value (List ℕ))) (j : Joining) (e : Entries) (p : Cid) (d : Entries) (q : Cid) : Type 0 where
+pub record Does (v : Version) (k : Kind) (t : Tag) (ms : List (Value (List ℕ))) (j : Joining) (e : Entries) (p : Option ℤ) (d : Entries) (q : Option ℤ) : Type 0 where
   pub form : Form v k t ms
   pub wants : wants_tick k ≡ true
   pub turns : Scalars → Scalars
@@ -90,7 +89,7 @@ module _ (r : Reader) (ready : Ready r) where
   pub open_reader : Reading r
   open_reader = record { sound = ready.sound; reads = ready.reads }
 
-  module _ {k : Kind} {t : Tag} {ms : List (Value (List ℕ))} {j : Joining} {d : Entries} {q : Cid}
+  module _ {k : Kind} {t : Tag} {ms : List (Value (List ℕ))} {j : Joining} {d : Entries} {q : Option ℤ}
       (f : Does r.scalars.version k t ms j r.entries r.scalars.remembered d q) where
     abbrev kept : List ℕ
     kept = f.form.values

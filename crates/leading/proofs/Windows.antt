@@ -1,4 +1,5 @@
 -- Bytes that lead a reader on do so in whatever windows, and are used up. Assumes nothing.
+use Rattle.std.specs.Prelude.{None}
 use Prim.Native.Nat.{ℕ, suc, ◌+◌, ◌-◌, ◌≤◌, ◌<◌}
 use mathlib.Core.Path.{◌≡◌, refl, sym, ◌∙◌, ap, subst}
 use mathlib.Core.Bool.{Bool, true, false}
@@ -16,7 +17,6 @@ use Rattle.state.specs.State.{good_reader}
 use Rattle.state.specs.Reading.{Event, Step, closing, refusal_step, out_of, next_kind, open_call, good_call, is_closed, read_call, reader_after}
 use Rattle.state.specs.Laws.{used_in}
 use Rattle.state.specs.steps.Parts.{memory_of}
-use Rattle.state.specs.declared.Pending.TheVariants.{NoKind}
 use Rattle.state.specs.declared.Reader.{Reader}
 use Rattle.state.proofs.Every.{by_cond}
 use Rattle.teams.specs.Teams.{Joining, team_reader, teams_after}
@@ -43,10 +43,10 @@ NoEvent (refuses k vs) = Unit {0}
 record Idle (r : Reader) (t : Step) : Type 0 where
   eventless : NoEvent t.said
   unused : used_in t.said ≡ 0
-  free : t.scalars.pending ≡ NoKind
+  free : t.scalars.pending ≡ None
   board : board_of (reader_after t) ≡ board_of r
 
-module _ (r : Reader) (p : r.scalars.pending ≡ NoKind) where
+module _ (r : Reader) (p : r.scalars.pending ≡ None) where
   idle_open : (last : Bool) → Idle r (open_call r.scalars (memory_of r.entries) [] last)
   unfolding open_call next_kind read_kind read_int read_from out_of refusal_step closing board_of
   idle_open true = rw p (record { eventless = tt; unused = refl; free = refl; board = refl })
@@ -186,10 +186,10 @@ module _ (r middle : Reader) (t : List ℤ) (sound : SoundTeams t) (piece rest :
 data On (to : Reader) (u : List ℤ) : At → Type 0 where
   under : {r middle : Reader} {t : List ℤ} {j : Joining} {js : List Joining} (piece rest : List ℕ) → SoundTeams t → Takes r piece j middle
       → Leads middle rest js to → after_joinings js (after_joining j t) ≡ u → On to u (at (team_reader r t) (piece ++ rest))
-  arrived : {r : Reader} {t : List ℤ} → SoundTeams t → r.scalars.pending ≡ NoKind → board_of r ≡ board_of to → t ≡ u
+  arrived : {r : Reader} {t : List ℤ} → SoundTeams t → r.scalars.pending ≡ None → board_of r ≡ board_of to → t ≡ u
       → On to u (at (team_reader r t) [])
 
-leads_are_on : {r to : Reader} {t u : List ℤ} {bytes : List ℕ} {js : List Joining} → to.scalars.pending ≡ NoKind → SoundTeams t
+leads_are_on : {r to : Reader} {t u : List ℤ} {bytes : List ℕ} {js : List Joining} → to.scalars.pending ≡ None → SoundTeams t
     → Leads r bytes js to → after_joinings js t ≡ u → On to u (at (team_reader r t) bytes)
 unfolding after_joinings
 leads_are_on p s there e = arrived s p refl e
@@ -208,12 +208,12 @@ no_teams_law (finish k) t h = refl
 no_teams_law (refuses k vs) t h = refl
 
 -- where nothing is pending a piece has bytes
-not_empty : {r middle : Reader} {j : Joining} (piece rest : List ℕ) → Takes r piece j middle → r.scalars.pending ≡ NoKind → piece ++ rest ≡ [] → ⊥
+not_empty : {r middle : Reader} {j : Joining} (piece rest : List ℕ) → Takes r piece j middle → r.scalars.pending ≡ None → piece ++ rest ≡ [] → ⊥
 not_empty {r} [] rest t p e = no_event_law 0 (read_call r [] false).said (t.gives [] false) (idle r p false).eventless
 not_empty (b ∷ bs) rest t p e = let z : ◌≡◌ {A = ℕ} 0 1 = cc in omega arith
 
-module _ (to : Reader) (u : List ℤ) (free : to.scalars.pending ≡ NoKind) where
-  idle_step : (r : Reader) (t : List ℤ) (s : SoundTeams t) (c : Cut) → r.scalars.pending ≡ NoKind → board_of r ≡ board_of to → t ≡ u
+module _ (to : Reader) (u : List ℤ) (free : to.scalars.pending ≡ None) where
+  idle_step : (r : Reader) (t : List ℤ) (s : SoundTeams t) (c : Cut) → r.scalars.pending ≡ None → board_of r ≡ board_of to → t ≡ u
       → On to u (step (at (team_reader r t) []) c)
   idle_step r t s c p b e =
       let i = idle r p (call_at [] c).last in
@@ -267,7 +267,7 @@ one_more {r} {middle} {t} {j} piece rest c s k h x =
     }
 
 ends_by : {r to : Reader} {t : List ℤ} {bytes : List ℕ} {js : List Joining} (c : Cut) → SoundTeams t → length bytes ≤ c.size
-    → to.scalars.pending ≡ NoKind → Leads r bytes js to → EndsBy (at (team_reader r t) bytes) c
+    → to.scalars.pending ≡ None → Leads r bytes js to → EndsBy (at (team_reader r t) bytes) c
 unfolding reads
 ends_by c s h p there = record { calls = 0; done = record { used = refl; free = p } }
 ends_by {t = t} c s h p (takes {r} {middle} {j = j} piece rest e k l) =

@@ -1,10 +1,9 @@
 -- Bytes that lead a reader on: piece by piece, each of which one call takes, whatever follows it.
-use Rattle.std.specs.Prelude.{ℕ, ◌≡◌, Bool, List, [], ◌∷◌, ◌++◌, length, ℤ}
+use Rattle.std.specs.Prelude.{ℕ, ◌≡◌, Bool, List, [], ◌∷◌, ◌++◌, length, ℤ, Some}
 use Rattle.item.specs.Said.{Said, gives, more, finish, refuses}
 use Rattle.state.specs.Reading.{Event, read_call, reader_after}
 use Rattle.state.specs.declared.Reader.{Reader}
 use Rattle.teams.specs.Teams.{Joining, nobody, on_joining, joining_of, put_team}
-use Rattle.teams.specs.declared.Team.TheVariants.{Number}
 
 abbrev pub GivesUsing : ℕ → Said Event → Type 0
 GivesUsing n (gives e used) = used ≡ n
@@ -33,7 +32,7 @@ pub data Leads : Reader → List ℕ → List Joining → Reader → Type 0 wher
 
 -- the teams after them
 abbrev pub after_joining : Joining → List ℤ → List ℤ
-after_joining j t = on_joining (λ c n. put_team t c (Number n)) t j
+after_joining j t = on_joining (λ c n. put_team t c (Some n)) t j
 
 unfoldable pub after_joinings : List Joining → List ℤ → List ℤ
 after_joinings [] t = t

@@ -1,9 +1,8 @@
 -- Bytes read from a reader in any windows of them, the flag off while bytes follow.
-use Rattle.std.specs.Prelude.{ℕ, ◌<◌, ◌≡◌, Bool, false, ◌&&◌, List, [], ◌∷◌, length, take, drop, replicate, leb}
+use Rattle.std.specs.Prelude.{ℕ, ◌<◌, ◌≡◌, Bool, false, ◌&&◌, List, [], ◌∷◌, length, take, drop, replicate, leb, None}
 use Rattle.item.specs.Said.{Said, gives, more, finish, refuses}
 use Rattle.state.specs.Reading.{Event}
 use Rattle.state.specs.Laws.{used_in}
-use Rattle.state.specs.declared.Pending.TheVariants.{NoKind}
 use Rattle.teams.specs.declared.TeamReader.{TeamReader}
 use Rattle.calls.specs.Calls.{Call}
 use Rattle.team_calls.specs.Reading.{team_call, team_reader_after}
@@ -37,7 +36,7 @@ reads s (c ∷ cs) = reads (step s c) cs
 -- all bytes are used, and nothing is pending
 pub record Done (s : At) : Type 0 where
   pub used : s.bytes ≡ []
-  pub free : s.reader.reader.scalars.pending ≡ NoKind
+  pub free : s.reader.reader.scalars.pending ≡ None
 
 -- a call gives an event, or more where its window cuts a record: all the bytes give an event, which uses more than the window has; no finish
 -- and no refusal

@@ -5,12 +5,12 @@
 //      has no room for an event, with what became of the memory lent
 #![tactic(auto)]
 
-use kinds::{Version, VersionOf};
+use kinds::Version;
 use lines::Ending;
 use many::{ManyAnswer, Stop};
 use state::{Answer, Entries, Reader};
 use teams::TeamReader;
-use texts::{Text, Used};
+use texts::Text;
 
 const STDOUT_FILENO: i32 = 1;
 
@@ -197,7 +197,7 @@ fn past(spot: Spot, read: LentRead, len: usize) -> Spot {
     let answer = read.answer;
     let left = read.reader;
     next.reader = left;
-    let Used::Bytes(used) = texts::used_in(answer) else {
+    let Some(used) = texts::used_in(answer) else {
         next.over = true;
         return next;
     };
@@ -234,8 +234,8 @@ fn run_input(version: i32, rest: &[u8]) {
         return;
     }
     match kinds::version_of(version) {
-        VersionOf::Is(version) => read_body(version, rest),
-        VersionOf::Refused(r) => print_text(texts::refused(r)),
+        Ok(version) => read_body(version, rest),
+        Err(r) => print_text(texts::refused(r)),
     }
 }
 

@@ -1,4 +1,5 @@
 -- The lines: how long they are, and from which parts they are put. Assumes nothing.
+use Rattle.std.specs.Prelude.{Option, Some, None, Result, Ok, Err}
 use Prim.Native.Nat.{ℕ, ◌+◌, ◌*◌, ◌≤◌, ◌<◌}
 use mathlib.Core.Path.{◌≡◌, sym, ◌∙◌, ap}
 use mathlib.Core.Bool.{Bool, true, false}
@@ -8,14 +9,11 @@ use lib.ListN.{length, length-append}
 use lib.IntN.{ℤ}
 use lib.Dec.{leb}
 use borrow.Author.Tests.{le-leb, lt-leb, leb-true, leb-false}
+use Rattle.refusal.specs.declared.Refusal.{Refusal}
 use Rattle.refusal.specs.declared.Refusal.TheVariants.{ShortTarget}
-use Rattle.varint.specs.declared.Wrote.{Wrote}
-use Rattle.varint.specs.declared.Wrote.TheVariants.{Past, Refused}
 use Rattle.packer.proofs.Joined.{Put, first_fits, next_fits, two_puts}
 use Rattle.item.specs.Contents.{cid_of}
 use Rattle.item.specs.Numbers.{tag_number}
-use Rattle.kinds.specs.declared.Cid.{Cid}
-use Rattle.kinds.specs.declared.Cid.TheVariants.{Of, NoCid}
 use Rattle.state.specs.Reading.{Event, tick_start, tick_end, player_new, player_change, player_old, input, other}
 use Rattle.lines.specs.Lines.{
   spaced,
@@ -58,9 +56,9 @@ module _ (ten : List ℤ) (h : length ten ≡ 10) where
   short : (word : List ℕ) (ns : List ℤ) → length word + 12 * length ns ≤ 137 → length (plain_line word ns) ≤ longest
   short word ns k = omega (arith, length-append word (decimals ns ++ newline), end_le ns)
 
-  client_le : (i : Cid) → length (client i) ≤ 12
-  client_le (Of z) = omega (arith, numbers_le (z ∷ []))
-  client_le NoCid = omega arith
+  client_le : (i : Option ℤ) → length (client i) ≤ 12
+  client_le (Some z) = omega (arith, numbers_le (z ∷ []))
+  client_le None = omega arith
 
   pub line_le : (e : Event) → length (line_of e ten) ≤ longest
   line_le (tick_start t) = short start_word (t ∷ []) (omega arith)
@@ -117,23 +115,23 @@ no_client_fits k at size h = omega (arith, length-append (spaced k) no_client, s
 
 -- a record with a client, and with none
 module _ (k : ℤ) where
-  pub client_parts : (z : ℤ) → plain_line record_word (k ∷ z ∷ []) ≡ record_line k (Of z)
+  pub client_parts : (z : ℤ) → plain_line record_word (k ∷ z ∷ []) ≡ record_line k (Some z)
   unfolding decimals
   client_parts z = simp append_assoc
 
-  pub no_client_parts : (record_word ++ spaced k) ++ no_client ≡ record_line k NoCid
+  pub no_client_parts : (record_word ++ spaced k) ++ no_client ≡ record_line k None
   unfolding decimals
   no_client_parts = simp append_assoc
 
 -- ---- what the public calls answer
 
 module _ (most : ℕ) (xs : List ℕ) (at : ℕ) (text : List ℕ) where
-  pub too_short : length xs < at + most → (Refused ShortTarget ≡ text_answer most xs at text) × (xs ≡ text_target most xs at text)
+  pub too_short : length xs < at + most → (Err ShortTarget ≡ text_answer most xs at text) × (xs ≡ text_target most xs at text)
   too_short h = let t = lt-leb (at + most) (length xs) h in (simp t, simp t)
 
   pub line_put : at + most ≤ length xs → (next : ℕ) (ys : List ℕ) → Put xs at text next ys
-      → (Past next ≡ text_answer most xs at text) × (ys ≡ text_target most xs at text)
-  line_put h next ys p = let t = le-leb (at + most) (length xs) h in rw t (ap Past p.0, p.1)
+      → (Ok next ≡ text_answer most xs at text) × (ys ≡ text_target most xs at text)
+  line_put h next ys p = let t = le-leb (at + most) (length xs) h in rw t (ap Ok p.0, p.1)
 
 -- the test of the room, of a target of n bytes
 module _ (at n : ℕ) (t : Bool) (e : t ≡ leb (at + longest) n) where
@@ -145,7 +143,7 @@ module _ (at n : ℕ) (t : Bool) (e : t ≡ leb (at + longest) n) where
 
 -- where the longest line fits, a shorter one is written
 pub roomy : (most : ℕ) (xs : List ℕ) (at : ℕ) (text : List ℕ) → leb (at + longest) (length xs) ≡ true → most ≤ longest
-    → (r : Wrote) (ys : List ℕ) → (r ≡ text_answer most xs at text) × (ys ≡ text_target most xs at text)
+    → (r : Result ℕ Refusal) (ys : List ℕ) → (r ≡ text_answer most xs at text) × (ys ≡ text_target most xs at text)
     → (r ≡ line_answer xs at text) × (ys ≡ line_target xs at text)
 roomy most xs at text t h r ys e =
     let u = le-leb (at + most) (length xs) (omega (arith, leb-true (at + longest) (length xs) t)) in

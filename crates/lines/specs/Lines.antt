@@ -1,16 +1,13 @@
 -- The lines that the replay program prints. docs/FORMAT.md, "The replay program". A text is a list of bytes.
-use Rattle.std.specs.Prelude.{ℕ, zero, suc, ◌+◌, ◌*◌, ◌/◌, ◌%◌, cond, List, [], ◌∷◌, ◌++◌, ltb, leb, length, ℤ, pos, negsuc}
+use Rattle.std.specs.Prelude.{ℕ, zero, suc, ◌+◌, ◌*◌, ◌/◌, ◌%◌, cond, List, [], ◌∷◌, ◌++◌, ltb, leb, length, ℤ, pos, negsuc, Option, Some, None, Result, Ok, Err}
 use Prim.Native.Char.{code}
 use Prim.Native.String.{String, [] as []ᵗ, ◌∷◌ as ◌∷ᵗ◌}
+use Rattle.refusal.specs.declared.Refusal.{Refusal}
 use Rattle.refusal.specs.Numbers.{number_of}
 use Rattle.refusal.specs.declared.Refusal.TheVariants.{ShortTarget}
 use Rattle.varint.specs.Written.{written}
-use Rattle.varint.specs.declared.Wrote.{Wrote}
-use Rattle.varint.specs.declared.Wrote.TheVariants as wrotes
 use Rattle.item.specs.Contents.{cid_of}
 use Rattle.item.specs.Numbers.{tag_number}
-use Rattle.kinds.specs.declared.Cid.{Cid}
-use Rattle.kinds.specs.declared.Cid.TheVariants.{Of, NoCid}
 use Rattle.state.specs.Reading.{Event, tick_start, tick_end, player_new, player_change, player_old, input, other}
 use Rattle.lines.specs.declared.Ending.{Ending}
 use Rattle.lines.specs.declared.Ending.TheVariants.{Finish, Refused, TooLong}
@@ -82,15 +79,15 @@ too_long_words = text "too long"
 -- ---- lines
 
 -- the client, or `-`
-abbrev pub client : Cid → List ℕ
-client (Of c) = decimals (c ∷ [])
-client NoCid = 0x20 ∷ 0x2D ∷ []
+abbrev pub client : Option ℤ → List ℕ
+client (Some c) = decimals (c ∷ [])
+client None = 0x20 ∷ 0x2D ∷ []
 
 -- a word and numbers
 abbrev pub plain_line : List ℕ → List ℤ → List ℕ
 plain_line word ns = word ++ (decimals ns ++ newline)
 
-abbrev pub record_line : ℤ → Cid → List ℕ
+abbrev pub record_line : ℤ → Option ℤ → List ℕ
 record_line k c = record_word ++ (decimals (k ∷ []) ++ (client c ++ newline))
 
 abbrev pub line_of : Event → List ℤ → List ℕ
@@ -119,15 +116,15 @@ longest = 138
 -- ---- a line into a target, at a place
 
 -- the place past a text; refusal 9 where there is no room for so many bytes
-abbrev pub text_answer : ℕ → List ℕ → ℕ → List ℕ → Wrote
-text_answer most xs at text = cond (leb (at + most) (length xs)) (wrotes.Past (at + length text)) (wrotes.Refused ShortTarget)
+abbrev pub text_answer : ℕ → List ℕ → ℕ → List ℕ → Result ℕ Refusal
+text_answer most xs at text = cond (leb (at + most) (length xs)) (Ok (at + length text)) (Err ShortTarget)
 
 -- the target after it: unchanged where there is no room
 abbrev pub text_target : ℕ → List ℕ → ℕ → List ℕ → List ℕ
 text_target most xs at text = cond (leb (at + most) (length xs)) (written xs at text) xs
 
 -- where the longest line has to fit
-abbrev pub line_answer : List ℕ → ℕ → List ℕ → Wrote
+abbrev pub line_answer : List ℕ → ℕ → List ℕ → Result ℕ Refusal
 line_answer = text_answer longest
 
 abbrev pub line_target : List ℕ → ℕ → List ℕ → List ℕ

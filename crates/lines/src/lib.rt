@@ -20,9 +20,7 @@ ghost use Rattle.lines.specs.Lines.{
 };
 ghost use Rattle.lines.specs.steps.Puts.{PutsText};
 
-use kinds::Cid;
 use refusal::Refusal;
-use varint::Wrote;
 
 // How a replay ends.
 #[derive(Clone, Copy)]
@@ -126,7 +124,7 @@ fn put_word(word: &[u8], out: &mut [u8], at: usize) -> usize
     requires { at + length word.now ≤ length out.old }
     ensures { PutsText out.old at word.now result out.new }
 {
-    let Wrote::Past(next) = text_writer::write_raw(word, out, at) else {
+    let Ok(next) = text_writer::write_raw(word, out, at) else {
         return at;
     };
     next
@@ -162,13 +160,13 @@ fn put_input(cid: i32, ten: &[i32], out: &mut [u8], at: usize) -> usize
 }
 
 // The line of a record: its kind's number, and the client or `-`.
-fn put_record(number: i32, cid: Cid, out: &mut [u8], at: usize) -> usize
+fn put_record(number: i32, cid: Option<i32>, out: &mut [u8], at: usize) -> usize
     requires { at + longest ≤ length out.old }
     ensures { PutsText out.old at (record_line number cid) result out.new }
 {
     match cid {
-        Cid::Of(client) => put_line(b"record", &[number, client], out, at),
-        Cid::NoCid => {
+        Some(client) => put_line(b"record", &[number, client], out, at),
+        None => {
             let a = put_word(b"record", out, at);
             let b = put_spaced(number, out, a);
             put_word(b" -\n", out, b)
@@ -197,36 +195,41 @@ pub fn has_longest(len: usize, at: usize) -> bool
 }
 
 // A word and numbers into the target, at a place. Refused 9, with nothing changed, where they wouldn't fit with each number at its longest.
-pub fn write_plain(word: &[u8], ns: &[i32], out: &mut [u8], at: usize) -> Wrote
+pub fn write_plain(word: &[u8], ns: &[i32], out: &mut [u8], at: usize) -> Result<usize, Refusal>
     ensures answer { result ≡ text_answer (plain_most word.now ns.now) out.old at (plain_line word.now ns.now) }
     ensures target { out.new ≡ text_target (plain_most word.now ns.now) out.old at (plain_line word.now ns.now) }
 {
     if has_room(out.len(), at, word.len(), ns.len()) {
-        return Wrote::Past(put_line(word, ns, out, at));
+        return Ok(put_line(word, ns, out, at));
     }
-    Wrote::Refused(Refusal::ShortTarget)
+    Err(Refusal::ShortTarget)
 }
 
 // The line of an input into the target, at a place. Refused 9, with nothing changed, where it wouldn't fit with each number at its longest.
-pub fn write_input(cid: i32, ten: &[i32], out: &mut [u8], at: usize) -> Wrote
+pub fn write_input(cid: i32, ten: &[i32], out: &mut [u8], at: usize) -> Result<usize, Refusal>
     ensures answer { result ≡ text_answer (plain_most input_word (cid ∷ ten.now)) out.old at (plain_line input_word (cid ∷ ten.now)) }
     ensures target { out.new ≡ text_target (plain_most input_word (cid ∷ ten.now)) out.old at (plain_line input_word (cid ∷ ten.now)) }
 {
     if has_room(out.len(), at, 17, ten.len()) {
-        return Wrote::Past(put_input(cid, ten, out, at));
+        return Ok(put_input(cid, ten, out, at));
     }
-    Wrote::Refused(Refusal::ShortTarget)
+    Err(Refusal::ShortTarget)
 }
 
 // The line of a record into the target, at a place. Refused 9, with nothing changed, where the longest line wouldn't fit.
-pub fn write_record(number: i32, cid: Cid, out: &mut [u8], at: usize) -> Wrote
+pub fn write_record(
+    number: i32,
+    cid: Option<i32>,
+    out: &mut [u8],
+    at: usize,
+) -> Result<usize, Refusal>
     ensures answer { result ≡ line_answer out.old at (record_line number cid) }
     ensures target { out.new ≡ line_target out.old at (record_line number cid) }
 {
     if has_longest(out.len(), at) {
-        return Wrote::Past(put_record(number, cid, out, at));
+        return Ok(put_record(number, cid, out, at));
     }
-    Wrote::Refused(Refusal::ShortTarget)
+    Err(Refusal::ShortTarget)
 }
 
 // The last line's bytes.
@@ -242,12 +245,12 @@ fn put_last(ending: Ending, out: &mut [u8], at: usize) -> usize
 }
 
 // The last line into the target, at a place. Refused 9, with nothing changed, where the longest line wouldn't fit.
-pub fn write_last(ending: Ending, out: &mut [u8], at: usize) -> Wrote
+pub fn write_last(ending: Ending, out: &mut [u8], at: usize) -> Result<usize, Refusal>
     ensures answer { result ≡ line_answer out.old at (last_line ending) }
     ensures target { out.new ≡ line_target out.old at (last_line ending) }
 {
     if has_longest(out.len(), at) {
-        return Wrote::Past(put_last(ending, out, at));
+        return Ok(put_last(ending, out, at));
     }
-    Wrote::Refused(Refusal::ShortTarget)
+    Err(Refusal::ShortTarget)
 }

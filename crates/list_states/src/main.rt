@@ -10,7 +10,6 @@ use listing::{End, ListRead};
 use results::Results;
 use state::Reader;
 use texts::Text;
-use varint::Wrote;
 
 const STDOUT_FILENO: i32 = 1;
 
@@ -34,7 +33,7 @@ fn print_count(word: &[u8], n: usize) {
 // The lines of a list without its last, which is `finish`.
 fn print_list(list: Results) {
     let mut text = [0u8; 5286];
-    let Wrote::Past(n) = result_lines::write_list(list, Ending::Finish, &mut text, 0) else {
+    let Ok(n) = result_lines::write_list(list, Ending::Finish, &mut text, 0) else {
         return;
     };
     say(cases::window(&text, 0, cases::difference(n, 7)));

@@ -3,10 +3,10 @@
 // Standard input holds inputs one behind the other, each after its length in three bytes, the low one first: a version byte, then a body.
 #![tactic(auto)]
 
-use kinds::{Version, VersionOf};
+use kinds::Version;
 use lines::Ending;
 use refusal::Refusal;
-use results::{Counted, Results};
+use results::Results;
 use state::{Answer, Event, Reader};
 use texts::Text;
 
@@ -77,10 +77,10 @@ struct Spot {
     over: bool,
 }
 
-fn count_in(counted: Counted, before: u64) -> u64 {
+fn count_in(counted: Result<u64, Refusal>, before: u64) -> u64 {
     match counted {
-        Counted::Others(n) => n,
-        Counted::Refused(_) => before,
+        Ok(n) => n,
+        Err(_) => before,
     }
 }
 
@@ -195,8 +195,8 @@ fn refuse(why: Refusal) {
 
 fn run_case(input: &[u8]) {
     match kinds::version_of(cases::first(input)) {
-        VersionOf::Is(version) => run_body(version, cases::window(input, 1, input.len())),
-        VersionOf::Refused(why) => refuse(why),
+        Ok(version) => run_body(version, cases::window(input, 1, input.len())),
+        Err(why) => refuse(why),
     }
 }
 

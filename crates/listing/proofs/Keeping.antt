@@ -1,4 +1,5 @@
 -- A list that takes finishes: a count that can't rise, and what the code tells of an event. Assumes nothing.
+use Rattle.std.specs.Prelude.{Result, Ok, Err}
 use Prim.Native.Nat.{ℕ}
 use mathlib.Core.Path.{◌≡◌, refl, sym, ap, ◌∙◌}
 use mathlib.Core.Bool.{Bool, true, false, cond, false≢true}
@@ -12,8 +13,6 @@ use Rattle.state.specs.Reading.{Event}
 use Rattle.state.proofs.Numbers.{picks_first}
 use Rattle.results.specs.Results.{Finish, finish_of, results_with, keep, fits, Keeps}
 use Rattle.results.specs.declared.Results.{Results}
-use Rattle.results.specs.declared.Counted.{Counted}
-use Rattle.results.specs.declared.Counted.TheVariants.{Others, Refused}
 use Rattle.results.proofs.Theorems.{count_rises}
 use Rattle.listing.specs.steps.Lists.{KeepsEvent}
 
@@ -26,18 +25,18 @@ stays_past l fs e =
 -- ---- by what the code says of an event
 
 module _ (l : Results) where
-  said_others : (b : Bool) (n m : ℕ) → Others n ≡ cond b (Others m) (Refused BadState) → (b ≡ true) × (n ≡ m)
+  said_others : (b : Bool) (n m : ℕ) → Ok n ≡ cond b (Ok m) (Err BadState) → (b ≡ true) × (n ≡ m)
   said_others true n m e = (refl, cc)
   said_others false n m e = (cc, cc)
 
-  said_refused : (b : Bool) (r : Refusal) (m : ℕ) → Refused r ≡ cond b (Others m) (Refused BadState) → b ≡ false
+  said_refused : (b : Bool) (r : Refusal) (m : ℕ) → Err r ≡ cond b (Ok m) (Err BadState) → b ≡ false
   said_refused true r m e = cc
   said_refused false r m e = refl
 
-  module _ (k : ℤ) (e : Event) {r : Counted} {marks : List ℕ} {times ticks : List ℤ}
+  module _ (k : ℤ) (e : Event) {r : Result ℕ Refusal} {marks : List ℕ} {times ticks : List ℤ}
       (h : Keeps l (finish_of k e) r marks times ticks)
     where
-      pub beside_others : (n : ℕ) → r ≡ Others n
+      pub beside_others : (n : ℕ) → r ≡ Ok n
           → KeepsEvent l k e (record { fits = true; others = n }) (results_with marks times ticks n)
       beside_others n q =
           let after = keep l (finish_of k e) in
@@ -51,7 +50,7 @@ module _ (l : Results) where
                 ((h.ticks ∙ ap (λ (x : Results). x.ticks) left) i) (s.1 i);
           }
 
-      pub beside_refused : (x : Refusal) (n : ℕ) (l₁ : Results) → r ≡ Refused x → KeepsEvent l k e (record { fits = false; others = n }) l₁
+      pub beside_refused : (x : Refusal) (n : ℕ) (l₁ : Results) → r ≡ Err x → KeepsEvent l k e (record { fits = false; others = n }) l₁
       beside_refused x n l₁ q =
           let after = keep l (finish_of k e) in
           record {

@@ -10,7 +10,7 @@ ghost use Rattle.listing.specs.Listing.{whole_run, list_run, said_run};
 ghost use Rattle.listing.specs.steps.Lists.{KeepsEvent, calls_read, unchanged, calls_leave, said_calls};
 
 use refusal::Refusal;
-use results::{Counted, Results};
+use results::Results;
 use state::{Answer, Entries, Event, Reader, Scalars};
 
 // Why the calls stopped.
@@ -61,11 +61,11 @@ fn keep_beside(
     ensures { KeepsEvent (results_with marks.old times.old ticks.old others) tick (event_is event) result (results_with marks.new times.new ticks.new result.others) }
 {
     match results::keep_event(event, tick, others, marks, times, ticks) {
-        Counted::Others(n) => Kept {
+        Ok(n) => Kept {
             fits: true,
             others: n,
         },
-        Counted::Refused(_) => Kept {
+        Err(_) => Kept {
             fits: false,
             others,
         },

@@ -3,13 +3,12 @@
 // too, by the lookups of a board; a version byte; a body. The teams of a board come behind all else of its clients.
 #![tactic(auto)]
 
-use back::BoardTick;
-use kinds::{Version, VersionOf};
-use lookups::{InputOf, Pos};
+use kinds::Version;
+use lookups::Pos;
 use state::{Event, Reader};
 use team_reading::TeamRead;
-use teams::{Team, TeamReader};
-use texts::{Text, Used};
+use teams::TeamReader;
+use texts::Text;
 
 const STDOUT_FILENO: i32 = 1;
 
@@ -28,26 +27,25 @@ fn print(text: Text) {
 }
 
 // The started tick or none.
-fn print_tick(tick: BoardTick) {
+fn print_tick(tick: Option<i32>) {
     match tick {
-        BoardTick::In(t) => print(texts::plain(b"tick", &[t])),
-        BoardTick::NoTick => say(b"tick -\n"),
+        Some(t) => print(texts::plain(b"tick", &[t])),
+        None => say(b"tick -\n"),
     }
 }
 
-fn print_pos(cid: i32, pos: Pos) {
-    let Pos::At { x, y } = pos else {
+fn print_pos(cid: i32, pos: Option<Pos>) {
+    let Some(Pos { x, y }) = pos else {
         return;
     };
     print(texts::plain(b"pos", &[cid, x, y]));
 }
 
 // The line of an input event with another word in front.
-fn print_inp(cid: i32, found: InputOf) {
-    if !found.there {
+fn print_inp(cid: i32, found: Option<[i32; 10]>) {
+    let Some(numbers) = found else {
         return;
-    }
-    let numbers = found.input;
+    };
     say(b"inp");
     print_from(texts::line(Event::Input { cid, former: false }, numbers), 5);
 }
@@ -55,8 +53,8 @@ fn print_inp(cid: i32, found: InputOf) {
 // What a client has beside its team.
 #[derive(Clone, Copy)]
 struct Found {
-    pos: Pos,
-    input: InputOf,
+    pos: Option<Pos>,
+    input: Option<[i32; 10]>,
 }
 
 // By the lookups of the reader, or by those of its board.
@@ -94,7 +92,7 @@ fn narrow(n: i64) -> i32 {
 }
 
 // By the lookup of the reader, or by that of its board.
-fn team_of(reader: TeamReader, cid: i32, on_board: bool) -> Team {
+fn team_of(reader: TeamReader, cid: i32, on_board: bool) -> Option<i32> {
     if on_board {
         return back::team(back::team_board_of(reader), cid);
     }
@@ -102,7 +100,7 @@ fn team_of(reader: TeamReader, cid: i32, on_board: bool) -> Team {
 }
 
 fn print_team(reader: TeamReader, cid: i32, on_board: bool) {
-    let Team::Number(n) = team_of(reader, cid, on_board) else {
+    let Some(n) = team_of(reader, cid, on_board) else {
         return;
     };
     print(texts::plain(b"team", &[cid, n]));
@@ -124,7 +122,7 @@ fn print_clients(reader: Reader, on_board: bool) {
     }
 }
 
-fn tick_of(reader: Reader) -> BoardTick {
+fn tick_of(reader: Reader) -> Option<i32> {
     let board = back::board_of(reader);
     let tick = board.tick;
     tick
@@ -174,7 +172,7 @@ fn tell(read: TeamRead, each: bool) {
     let answer = plain.answer;
     let input = plain.input;
     let reader = left(read);
-    if let Used::NoEvent = texts::used_in(answer) {
+    if let None = texts::used_in(answer) {
         print(texts::told(answer, input));
         print_board(reader, false);
         return;
@@ -190,12 +188,12 @@ fn past(at: usize, read: TeamRead, len: usize) -> Spot {
     let answer = plain.answer;
     let reader = left(read);
     match texts::used_in(answer) {
-        Used::Bytes(used) => Spot {
+        Some(used) => Spot {
             reader,
             at: cases::past(at, used, len),
             over: false,
         },
-        Used::NoEvent => Spot {
+        None => Spot {
             reader,
             at,
             over: true,
@@ -233,8 +231,8 @@ fn read_body(version: Version, body: &[u8], each: bool) {
 
 fn run_input(input: &[u8], each: bool) {
     match kinds::version_of(cases::first(input)) {
-        VersionOf::Is(version) => read_body(version, cases::window(input, 1, input.len()), each),
-        VersionOf::Refused(r) => print(texts::refused(r)),
+        Ok(version) => read_body(version, cases::window(input, 1, input.len()), each),
+        Err(r) => print(texts::refused(r)),
     }
 }
 

@@ -4,65 +4,45 @@
 ghost use Rattle.std.specs.Prelude.{◌≡◌, false};
 ghost use Rattle.fields.specs.Views.{zeros};
 ghost use Rattle.lookups.specs.Lookups.{pos_of, input_for};
-ghost use Rattle.lookups.specs.steps.Answers.{input_answer};
 
 use state::Entries;
 
-// A position, or none.
+// A position.
 #[derive(Clone, Copy)]
-pub enum Pos {
-    At { x: i32, y: i32 },
-    NoPos,
-}
-
-// Ten numbers, if there are any.
-#[derive(Clone, Copy)]
-pub struct InputOf {
-    pub there: bool,
-    pub input: [i32; 10],
+pub struct Pos {
+    pub x: i32,
+    pub y: i32,
 }
 
 // The position of a client, or none.
-pub fn player_pos(entries: Entries, cid: i32) -> Pos
+pub fn player_pos(entries: Entries, cid: i32) -> Option<Pos>
     ensures { result ≡ pos_of entries cid }
 {
     let bits = num::bits(cid);
     if 128 <= bits {
-        return Pos::NoPos;
+        return None;
     }
     let i = bits as usize;
     if entries.marks[i] != 1 {
-        return Pos::NoPos;
+        return None;
     }
-    Pos::At {
+    Some(Pos {
         x: entries.xs[i],
         y: entries.ys[i],
-    }
+    })
 }
 
 // The ten input numbers of a client, or none.
-pub fn input(entries: Entries, cid: i32) -> InputOf
+pub fn input(entries: Entries, cid: i32) -> Option<[i32; 10]>
     ensures { result ≡ input_for entries cid }
 {
     let bits = num::bits(cid);
     if 128 <= bits {
-        return no_input();
+        return None;
     }
     let i = bits as usize;
     if entries.held[i] != 1 {
-        return no_input();
+        return None;
     }
-    InputOf {
-        there: true,
-        input: inputs::ten_at(&entries.inputs, i),
-    }
-}
-
-fn no_input() -> InputOf
-    ensures { result ≡ input_answer false (zeros 10) }
-{
-    InputOf {
-        there: false,
-        input: [0; 10],
-    }
+    Some(inputs::ten_at(&entries.inputs, i))
 }

@@ -1,4 +1,5 @@
 -- Calls one behind the other: what is done and what is left. Assumes nothing.
+use Rattle.std.specs.Prelude.{Option}
 use Prim.Native.Nat.{ℕ, suc, ◌+◌, ◌*◌}
 use mathlib.Core.Path.{◌≡◌, refl, sym, ap, ◌∙◌}
 use mathlib.Core.Bool.{Bool}
@@ -23,7 +24,6 @@ use Rattle.state.specs.declared.Outcome.{Outcome}
 use Rattle.calls.specs.Calls.{Seen, is_pending}
 use Rattle.calls.specs.Along.{Halt, Run, stopped, before, calls}
 use Rattle.teams.specs.Teams.{team_reader, teams_after, former_team}
-use Rattle.teams.specs.declared.Team.{Team}
 use Rattle.teams.proofs.Joins.{slim_teams, slim_former}
 use Rattle.team_calls.specs.Lists.{team_seen, teams_over, with_formers}
 use Rattle.rows.specs.Rows.{flag, event_row, row_of, event_tens, tens_of, put, rows_from, tens_from}
@@ -96,13 +96,13 @@ module _ (s : Scalars) (m : Memory) (w : List ℕ) (last : Bool) (sound : Sound 
     abbrev seen : Seen
     seen = one.seen s m w last sound o m' e v n a
 
-    row_is : (team : Team) → row_of (team_seen team seen) ≡ event_row (event_is v) team (wrap32 (pos n)) (flag (is_pending s.pending))
+    row_is : (team : Option ℤ) → row_of (team_seen team seen) ≡ event_row (event_is v) team (wrap32 (pos n)) (flag (is_pending s.pending))
     unfolding row_of
     row_is team =
         sym (slim_row given.event team _ _)
         ∙ ap (λ (d : Event). event_row d team (wrap32 (pos n)) (flag (is_pending s.pending))) given.own
 
-    tens_are : (team : Team) → tens_of (team_seen team seen) ≡ event_tens (event_is v) m'.input m'.former
+    tens_are : (team : Option ℤ) → tens_of (team_seen team seen) ≡ event_tens (event_is v) m'.input m'.former
     unfolding tens_of
     tens_are team =
         let t = read_call (reader_of s m) w last in

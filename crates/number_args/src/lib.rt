@@ -4,12 +4,6 @@
 ghost use Rattle.std.specs.Prelude.{◌≡◌, ◌≤◌, ◌&&◌, leb};
 ghost use Rattle.number_args.specs.Numbers.{is_digit, with_digit, number_in};
 
-#[derive(Clone, Copy)]
-pub enum Argument {
-    Number(i32),
-    Bad,
-}
-
 // Whether a byte is a digit that the number may have behind it.
 fn goes_on(n: u32, byte: u8) -> bool
     requires { n ≤ 2147483647 }
@@ -29,21 +23,21 @@ fn goes_on(n: u32, byte: u8) -> bool
 }
 
 // Decimal digits, one at least, 2147483647 at most.
-pub fn number_in(text: &[u8]) -> Argument
+pub fn number_in(text: &[u8]) -> Option<i32>
     ensures { result ≡ number_in text.now }
 {
     if text.len() == 0 {
-        return Argument::Bad;
+        return None;
     }
     let mut n: u32 = 0;
     let mut i: usize = 0;
     while i < text.len() {
         let byte = text[i];
         if !goes_on(n, byte) {
-            return Argument::Bad;
+            return None;
         }
         n = 10 * n + (byte - 48) as u32;
         i += 1;
     }
-    Argument::Number(n as i32)
+    Some(n as i32)
 }

@@ -1,4 +1,5 @@
 -- The outline of an extension writes its written form. Assumes nothing.
+use Rattle.std.specs.Prelude.{Some, None}
 use Prim.Native.Nat.{ℕ, ◌≤◌}
 use mathlib.Core.Path.{◌≡◌, refl, sym, ◌∙◌, ap}
 use mathlib.Core.Bool.{Bool, true, false, ◌&&◌, and-true, and-false, and_assoc}
@@ -20,7 +21,6 @@ use Rattle.shapes.specs.declared.Shape.TheVariants as shapes
 use Rattle.shapes.specs.declared.Fields.{Fields}
 use Rattle.extensions.specs.Extensions.{Payload, id_at, payload_at, find, is_unknown}
 use Rattle.extensions.specs.declared.Extension.{Extension}
-use Rattle.extensions.specs.declared.Found.TheVariants.{Known, Unknown}
 use Rattle.item.specs.Records.{Content}
 use Rattle.item.specs.Contents.{own_payload}
 use Rattle.item.specs.steps.Taken.{from_fields}
@@ -159,7 +159,7 @@ module _ (s : List ℕ) (f : Fields) where
     unfolding content_bytes
     other_bytes = refl
 
-    other_two : find (shown s (id_part f.uuid)) ≡ Unknown
+    other_two : find (shown s (id_part f.uuid)) ≡ None
         → Outlines V2 s (from_fields Other f) ten xs
         (outline_with (Int (negsuc 10)) Empty Empty (plan_with (Raw (id_part f.uuid)) (Data f.text) Empty Empty) Empty Nothing)
     other_two e = record {
@@ -169,12 +169,12 @@ module _ (s : List ℕ) (f : Fields) where
       written = λ t. (simp append-nil) ∙ other_bytes;
     }
 
-    pub other_outlines : find (shown s (id_part f.uuid)) ≡ Unknown → (v : Version)
+    pub other_outlines : find (shown s (id_part f.uuid)) ≡ None → (v : Version)
         → Outlines v s (from_fields Other f) ten xs
         (outline_with (ex_number v) Empty Empty (plan_with (Raw (id_part f.uuid)) (Data f.text) Empty Empty) Empty Nothing)
     other_outlines e v =
         in_version s (from_fields Other f) ten xs other_one Empty Empty (plan_with (Raw (id_part f.uuid)) (Data f.text) Empty Empty)
         (other_two e) v
 
-    pub known_id : (x : Extension) → find (shown s (id_part f.uuid)) ≡ Known x → (v : Version) → Outlines v s (from_fields Other f) ten xs unwritable
+    pub known_id : (x : Extension) → find (shown s (id_part f.uuid)) ≡ Some x → (v : Version) → Outlines v s (from_fields Other f) ten xs unwritable
     known_id x e v = never_outlines s (from_fields Other f) ten xs other_one (other_ok ∙ rw e (and-false in_it)) v

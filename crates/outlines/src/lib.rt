@@ -16,7 +16,6 @@ ghost use Rattle.outlines.specs.steps.Outlines.{
   Outlines,
 };
 
-use extensions::Found;
 use fields::Args;
 use kinds::{Kind, Version};
 use packer::Part;
@@ -159,8 +158,8 @@ pub fn other_outline(version: Version, s: &[u8], f: Fields, ten: [i32; 10], args
     let part = Part { at, len: 16 };
     let id = Piece::Raw(part);
     match ids::find_id(s, at) {
-        Found::Known(_) => never(),
-        Found::Unknown => outline_with(
+        Some(_) => never(),
+        None => outline_with(
             ex_number(version),
             none,
             none,

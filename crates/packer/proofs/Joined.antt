@@ -1,4 +1,5 @@
 -- Bytes put into a target one after the other. Assumes nothing.
+use Rattle.std.specs.Prelude.{Ok}
 use Prim.Native.Nat.{ℕ, suc, ◌+◌, ◌≤◌, ◌<◌}
 use mathlib.Core.Path.{◌≡◌, sym, ◌∙◌, ap}
 use mathlib.Core.List.{List, [], ◌∷◌, ◌++◌}
@@ -9,7 +10,6 @@ use lib.ListN.{length, length-append, set, drop, get_or}
 use lib.Seq.{sets, length-sets, drop-cons}
 use Rattle.varint.specs.Written.{written}
 use Rattle.varint.specs.steps.Writing.{wrote}
-use Rattle.varint.specs.declared.Wrote.TheVariants.{Past}
 use Rattle.varint.proofs.Writing.{fits_written, fits_answer}
 
 sets_join : (a b xs : List ℕ) (at : ℕ) → sets xs at (a ++ b) ≡ sets (sets xs at a) (at + length a) b
@@ -48,8 +48,8 @@ abbrev pub Put : List ℕ → ℕ → List ℕ → ℕ → List ℕ → Type 0
 Put xs at a next ys = (next ≡ at + length a) × (ys ≡ written xs at a)
 
 -- what a call that put them answers
-pub put_answer : (xs : List ℕ) (at : ℕ) (a : List ℕ) → at + length a ≤ length xs → (next : ℕ) (ys : List ℕ) → Put xs at a next ys → (Past next ≡ wrote xs at a) × (ys ≡ written xs at a)
-put_answer xs at a h next ys p = (ap Past p.0 ∙ fits_answer xs at a h, p.1)
+pub put_answer : (xs : List ℕ) (at : ℕ) (a : List ℕ) → at + length a ≤ length xs → (next : ℕ) (ys : List ℕ) → Put xs at a next ys → (Ok next ≡ wrote xs at a) × (ys ≡ written xs at a)
+put_answer xs at a h next ys p = (ap Ok p.0 ∙ fits_answer xs at a h, p.1)
 
 module _ (xs : List ℕ) (at : ℕ) (a b : List ℕ) (fits : at + length (a ++ b) ≤ length xs) (n : ℕ) (ys : List ℕ) (p : Put xs at a n ys) where
   pub next_fits : n + length b ≤ length ys

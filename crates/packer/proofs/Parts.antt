@@ -1,4 +1,5 @@
 -- What a part that was read tells of the window. Assumes nothing.
+use Rattle.std.specs.Prelude.{Option, None}
 use Prim.Native.Nat.{ℕ, suc, ◌+◌, ◌-◌, ◌≤◌}
 use mathlib.Core.Path.{◌≡◌, refl, sym, ◌∙◌, ap}
 use mathlib.Core.Bool.{true}
@@ -15,7 +16,6 @@ use Rattle.varint.specs.Integers.{read_int}
 use Rattle.varint.specs.Written.{canonical}
 use Rattle.varint.specs.Laws.{Bytes, int_out}
 use Rattle.varint.specs.declared.Remark.{Remark}
-use Rattle.varint.specs.declared.Remark.TheVariants.{None}
 use Rattle.varint.specs.declared.IntRead.{IntRead}
 use Rattle.varint.specs.declared.IntRead.TheVariants as ints
 use Rattle.varint.proofs.Prefix.{int_whole, int_fits}
@@ -179,7 +179,7 @@ module _ (s : List ℕ) (at next : ℕ) (p : Part) (e : read_string s at ≡ Got
 
 -- data that was read: its length stands before it
 pub record Body (s : List ℕ) (at next : ℕ) (p : Part) : Type 0 where
-  pub remark : Remark
+  pub remark : Option Remark
   pub reads : read_int s at ≡ ints.Got (pos p.len) p.at remark
   pub within : p.at + p.len ≤ length s
   pub place : next ≡ p.at + p.len

@@ -1,4 +1,5 @@
 -- What stands at a place of a window: `drop at s ≡ w ++ rest`. Raw bytes, strings and data that stand at a place. Assumes nothing.
+use Rattle.std.specs.Prelude.{None}
 use Prim.Native.Nat.{ℕ, suc, ◌+◌, ◌≤◌}
 use mathlib.Core.Path.{◌≡◌, sym, ◌∙◌, ap}
 use mathlib.Core.Bool.{true}
@@ -10,7 +11,6 @@ use lib.Seq.{drop-drop, drop-append_seam, take-append_seam}
 use lib.IntN.{pos}
 use borrow.Author.Tests.{leb-true}
 use Rattle.varint.specs.Integers.{read_int}
-use Rattle.varint.specs.declared.Remark.TheVariants.{None}
 use Rattle.varint.specs.declared.IntRead.TheVariants as ints
 use Rattle.varint.proofs.Prefix.{canonical_at}
 use Rattle.packer.specs.Parts.{part, shown, read_raw, string_from, read_string, as_data, read_data}

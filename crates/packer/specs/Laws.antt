@@ -1,10 +1,9 @@
 -- What holds of strings, data and raw bytes, as statements; proofs/Theorems.antt proves each.
-use Rattle.std.specs.Prelude.{ℕ, ◌+◌, ◌-◌, ◌≡◌, Bool, true, false, List, ◌++◌, ◌↔◌, length, take, drop, ℤ, pos, negsuc}
+use Rattle.std.specs.Prelude.{ℕ, ◌+◌, ◌-◌, ◌≡◌, Bool, true, false, List, ◌++◌, ◌↔◌, length, take, drop, ℤ, pos, negsuc, Option, None}
 use Rattle.varint.specs.Integers.{read_int}
 use Rattle.varint.specs.Written.{canonical}
 use Rattle.varint.specs.Laws.{Bytes, Steady, Shorter}
 use Rattle.varint.specs.declared.Remark.{Remark}
-use Rattle.varint.specs.declared.Remark.TheVariants.{None}
 use Rattle.varint.specs.declared.IntRead.TheVariants as ints
 use Rattle.packer.specs.Parts.{part, shown, read_raw, read_string, read_data}
 use Rattle.packer.specs.Texts.{no_zero, string_bytes, is_data, data_bytes}
@@ -65,7 +64,7 @@ RawReadsWritten =
 pub record LengthBelow0 (s : List ℕ) (at : ℕ) : Type 0 where
   pub n : ℕ
   pub next : ℕ
-  pub remark : Remark
+  pub remark : Option Remark
   pub read : read_int s at ≡ ints.Got (negsuc n) next remark
 
 abbrev pub DataNegative : Type 0

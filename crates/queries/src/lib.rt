@@ -6,40 +6,16 @@ ghost use Rattle.state.specs.State.{good_reader};
 ghost use Rattle.lookups.specs.Lookups.{pos_of, input_for};
 ghost use Rattle.queries.specs.Wanted.{WantedIs};
 
-use kinds::{Version, VersionOf};
-use lookups::{InputOf, Pos};
+use lookups::Pos;
 use refusal::Refusal;
 use state::Reader;
 
-// Whether there is an empty reader in a version, or a refusal.
-#[derive(Clone, Copy)]
-pub enum WantedAnswer {
-    Is,
-    Refused(Refusal),
-}
-
-// An empty reader wanted in a version; beside a refusal stands the one of version 1.
-#[derive(Clone, Copy)]
-pub struct WantedReader {
-    pub answer: WantedAnswer,
-    pub reader: Reader,
-}
-
 // An empty reader in a version, or refusal 2.
-pub fn wanted(version: i32) -> WantedReader
+pub fn wanted(version: i32) -> Result<Reader, Refusal>
     ensures { WantedIs version result }
 {
-    let found = kinds::version_of(version);
-    match found {
-        VersionOf::Is(v) => WantedReader {
-            answer: WantedAnswer::Is,
-            reader: Reader::empty(v),
-        },
-        VersionOf::Refused(why) => WantedReader {
-            answer: WantedAnswer::Refused(why),
-            reader: Reader::empty(Version::V1),
-        },
-    }
+    let v = kinds::version_of(version)?;
+    Ok(Reader::empty(v))
 }
 
 // Whether the reader is not refused 17.
@@ -59,7 +35,7 @@ pub fn is_good(reader: Reader) -> bool
 }
 
 // The position of a client, or none.
-pub fn player_pos(reader: Reader, cid: i32) -> Pos
+pub fn player_pos(reader: Reader, cid: i32) -> Option<Pos>
     ensures { result ≡ pos_of reader.entries cid }
 {
     let entries = reader.entries;
@@ -67,7 +43,7 @@ pub fn player_pos(reader: Reader, cid: i32) -> Pos
 }
 
 // The ten input numbers of a client, or none.
-pub fn input(reader: Reader, cid: i32) -> InputOf
+pub fn input(reader: Reader, cid: i32) -> Option<[i32; 10]>
     ensures { result ≡ input_for reader.entries cid }
 {
     let entries = reader.entries;

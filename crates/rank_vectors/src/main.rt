@@ -6,7 +6,8 @@
 #![tactic(auto)]
 
 use item::Item;
-use results::{Counted, Results};
+use refusal::Refusal;
+use results::Results;
 use state::Event;
 use texts::Text;
 
@@ -151,10 +152,10 @@ fn event_in(s: &[u8]) -> Event {
 }
 
 // The count; a refusal is printed, and the count stays.
-fn count_in(counted: Counted, before: u64) -> u64 {
+fn count_in(counted: Result<u64, Refusal>, before: u64) -> u64 {
     match counted {
-        Counted::Others(n) => n,
-        Counted::Refused(why) => {
+        Ok(n) => n,
+        Err(why) => {
             print(texts::refused(why));
             before
         }

@@ -6,19 +6,17 @@
 ghost use Rattle.std.specs.Prelude.{◌≡◌, ◌<◌, length};
 
 use feed::Hand;
-use kinds::{Version, VersionOf};
+use kinds::Version;
 use lines::Ending;
 use many::Stop;
 use packer::Part;
 use refusal::Refusal;
-use state::Pending;
 use std::alloc::Alloc;
 use std::env::{Env, FillError};
 use std::fs;
 use std::fs::Files;
 use std::io::{Error, Read};
 use teams::TeamReader;
-use varint::Wrote;
 
 const STDOUT_FILENO: i32 = 1;
 
@@ -89,7 +87,7 @@ fn tell(file: File, text: &[u8]) {
 // `refused n` or `too long`.
 fn say_last(ending: Ending) {
     let mut line = [0u8; 138];
-    let Wrote::Past(n) = lines::write_last(ending, &mut line, 0) else {
+    let Ok(n) = lines::write_last(ending, &mut line, 0) else {
         return;
     };
     say(packer::show(&line, Part { at: 0, len: n }));
@@ -354,8 +352,8 @@ fn refused(file: File, refusal: Refusal, hand: Hand) -> First {
 // The version byte.
 fn behind_version(file: File, number: i32, hand: Hand) -> First {
     match kinds::version_of(number) {
-        VersionOf::Is(version) => first_of(version, hand, true),
-        VersionOf::Refused(refusal) => refused(file, refusal, hand),
+        Ok(version) => first_of(version, hand, true),
+        Err(refusal) => refused(file, refusal, hand),
     }
 }
 
@@ -415,16 +413,16 @@ fn print(bytes: &[u8], n: usize) {
 fn reach(from: TeamReader, to: TeamReader) {
     let mut bytes = [0u8; 16384];
     match reaching::reach(from, back::team_board_of(to), &mut bytes) {
-        Wrote::Past(n) => print(&bytes, n),
-        Wrote::Refused(refusal) => say_last(Ending::Refused(refusal)),
+        Ok(n) => print(&bytes, n),
+        Err(refusal) => say_last(Ending::Refused(refusal)),
     }
 }
 
 // A kind that is pending at TO's end.
 fn is_between(to: &TeamReader) -> bool {
     match to.reader.scalars.pending {
-        Pending::Is(_) => false,
-        Pending::NoKind => true,
+        Some(_) => false,
+        None => true,
     }
 }
 

@@ -14,12 +14,12 @@
 
 ghost use Rattle.std.specs.Prelude.{◌≡◌, ◌≤◌, length};
 
-use back::{Board, BoardTick, TeamBoard};
-use kinds::{Cid, Version};
-use state::{Answer, Entries, Pending, Reader, Scalars};
+use back::{Board, TeamBoard};
+use kinds::{Kind, Version};
+use refusal::Refusal;
+use state::{Answer, Entries, Reader, Scalars};
 use team_reading::TeamRead;
 use teams::TeamReader;
-use varint::Wrote;
 
 const STDOUT_FILENO: i32 = 1;
 
@@ -149,7 +149,7 @@ fn remembering(reader: Reader, cid: i32) -> Reader {
         version,
         tick: s.tick,
         inside: s.inside,
-        remembered: Cid::Of(cid),
+        remembered: Some(cid),
         largest: s.largest,
         pending,
         standing,
@@ -216,10 +216,10 @@ fn with_team(teams: [i32; 256], what: usize, c: usize, n: i32) -> [i32; 256] {
     made
 }
 
-fn with_tick(tick: BoardTick, what: usize, n: i32) -> BoardTick {
+fn with_tick(tick: Option<i32>, what: usize, n: i32) -> Option<i32> {
     match what {
-        14 => BoardTick::In(n),
-        15 => BoardTick::NoTick,
+        14 => Some(n),
+        15 => None,
         _ => tick,
     }
 }
@@ -255,7 +255,7 @@ fn change_all(board: TeamBoard, changes: &[u8]) -> TeamBoard {
 #[derive(Clone, Copy)]
 struct Target {
     bytes: [u8; 16640],
-    wrote: Wrote,
+    wrote: Result<usize, Refusal>,
 }
 
 // A target before the call.
@@ -272,7 +272,7 @@ fn room_of(n: usize) -> usize
     if n < 16640 { n } else { 16640 }
 }
 
-fn on_lent(reader: TeamReader, board: TeamBoard, out: &mut [u8]) -> Wrote {
+fn on_lent(reader: TeamReader, board: TeamBoard, out: &mut [u8]) -> Result<usize, Refusal> {
     let plain = reader.reader;
     let teams = reader.teams;
     let scalars = plain.scalars;
@@ -288,18 +288,18 @@ fn on_lent(reader: TeamReader, board: TeamBoard, out: &mut [u8]) -> Wrote {
 }
 
 // The number of bytes, or 100000 more than the refusal's number.
-fn code(wrote: Wrote) -> usize {
+fn code(wrote: Result<usize, Refusal>) -> usize {
     match wrote {
-        Wrote::Past(n) => n,
-        Wrote::Refused(why) => 100000 + cases::size(why.number()),
+        Ok(n) => n,
+        Err(why) => 100000 + cases::size(why.number()),
     }
 }
 
 // The number of bytes, 0 in a refusal.
-fn size(wrote: Wrote) -> usize {
+fn size(wrote: Result<usize, Refusal>) -> usize {
     match wrote {
-        Wrote::Past(n) => n,
-        Wrote::Refused(_) => 0,
+        Ok(n) => n,
+        Err(_) => 0,
     }
 }
 
@@ -356,10 +356,10 @@ fn hold(reader: TeamReader, board: TeamBoard) {
 
 // ---- the bytes, read
 
-fn is_pending(pending: Pending) -> bool {
+fn is_pending(pending: Option<Kind>) -> bool {
     match pending {
-        Pending::Is(_) => true,
-        Pending::NoKind => false,
+        Some(_) => true,
+        None => false,
     }
 }
 
@@ -403,8 +403,8 @@ fn print_target(reader: TeamReader, board: TeamBoard, target: Target, by_hand: b
     let bytes = target.bytes;
     let wrote = target.wrote;
     match wrote {
-        Wrote::Past(n) => print_written(reader, board, cases::window(&bytes, 0, n), by_hand),
-        Wrote::Refused(why) => print_refused(why.number()),
+        Ok(n) => print_written(reader, board, cases::window(&bytes, 0, n), by_hand),
+        Err(why) => print_refused(why.number()),
     }
 }
 

@@ -1,4 +1,5 @@
 -- The answer to whether a wanted board may be reached, by the cases of its tests. Assumes nothing.
+use Rattle.std.specs.Prelude.{Option, Some}
 use mathlib.Core.Path.{◌≡◌, sym, ◌∙◌, ap}
 use mathlib.Core.Bool.{Bool, true, false, ◌&&◌, ◌||◌}
 use mathlib.Core.List.{List}
@@ -11,8 +12,6 @@ use Rattle.teams.specs.Teams.{good_team_reader}
 use Rattle.teams.specs.declared.TeamReader.{TeamReader}
 use Rattle.calls.specs.Calls.{is_pending}
 use Rattle.back.specs.TeamBoard.{good_team_board}
-use Rattle.back.specs.declared.BoardTick.{BoardTick}
-use Rattle.back.specs.declared.BoardTick.TheVariants.{In}
 use Rattle.back.specs.declared.TeamBoard.{TeamBoard}
 use Rattle.choice.specs.Reaching.{cant_reach, unreachable, may, may_not, may_reach}
 
@@ -49,9 +48,9 @@ module _ (a b c d i f : Bool) where
 pub both_are : (a b x y r : Bool) → r ≡ (a && b) → a ≡ x → b ≡ y → (x && y) ≡ r
 both_are a b x y r e ea eb = sym (e ∙ (λ i. ea i && eb i))
 
-pub unreachable_in : (s : Scalars) (e : Entries) (teams : List ℤ) (t : BoardTick) (w : Entries) (wteams : List ℤ) (u : ℤ) (r : Bool) → t ≡ In u
+pub unreachable_in : (s : Scalars) (e : Entries) (teams : List ℤ) (t : Option ℤ) (w : Entries) (wteams : List ℤ) (u : ℤ) (r : Bool) → t ≡ Some u
     → r ≡ cant_reach s e teams u w wteams → unreachable s e teams t w wteams ≡ r
-unreachable_in s e teams t w wteams u r et er = ap (λ (x : BoardTick). unreachable s e teams x w wteams) et ∙ sym er
+unreachable_in s e teams t w wteams u r et er = ap (λ (x : Option ℤ). unreachable s e teams x w wteams) et ∙ sym er
 
 module _ (r : TeamReader) (b : TeamBoard) where
   abbrev s : Scalars

@@ -12,18 +12,10 @@ ghost use Rattle.choice.specs.Chosen.{player_of};
 ghost use Rattle.choice.specs.Reaching.{loses_input, loses_team, any_team, team_without, differs_behind, cant_reach, may_reach};
 ghost use Rattle.reachable.specs.steps.Tests.{AllowedIs};
 
-use back::BoardTick;
 use choice::Player;
-use kinds::{Cid, Version};
+use kinds::{Kind, Version};
 use refusal::Refusal;
-use state::{Pending, Scalars};
-
-// The tick to be reached, or the refusal.
-#[derive(Clone, Copy)]
-pub enum Allowed {
-    To(i32),
-    No(Refusal),
-}
+use state::Scalars;
 
 // A client's player entry; zeros where it has none.
 pub fn player_at<'a>(
@@ -115,18 +107,18 @@ fn team_without(version: Version, wanted: &[i32; 256]) -> bool
     }
 }
 
-fn at_or_below(c: i32, p: Cid) -> bool
+fn at_or_below(c: i32, p: Option<i32>) -> bool
     ensures { result ≡ at_or_below c p }
 {
     match p {
-        Cid::Of(q) => !(q < c),
-        Cid::NoCid => false,
+        Some(q) => !(q < c),
+        None => false,
     }
 }
 
 // Whether a player entry differs at or below the remembered client.
 fn differs_behind<'a>(
-    remembered: Cid,
+    remembered: Option<i32>,
     marks: &'a [u8; 128],
     xs: &'a [i32; 128],
     ys: &'a [i32; 128],
@@ -191,12 +183,12 @@ fn cant_reach<'a>(
     differs_behind(remembered, marks, xs, ys, wmarks, wxs, wys)
 }
 
-fn is_pending(pending: Pending) -> bool
+fn is_pending(pending: Option<Kind>) -> bool
     ensures { result ≡ is_pending pending }
 {
     match pending {
-        Pending::Is(_) => true,
-        Pending::NoKind => false,
+        Some(_) => true,
+        None => false,
     }
 }
 
@@ -221,7 +213,7 @@ fn good_from<'a>(
 
 // Whether the wanted board is not refused 17.
 fn good_to<'a>(
-    tick: BoardTick,
+    tick: Option<i32>,
     marks: &'a [u8; 128],
     xs: &'a [i32; 128],
     ys: &'a [i32; 128],
@@ -250,14 +242,14 @@ pub fn may_reach<'a>(
     held: &'a [u8; 128],
     inputs: &'a [i32; 1280],
     teams: &'a [i32; 256],
-    tick: BoardTick,
+    tick: Option<i32>,
     wmarks: &'a [u8; 128],
     wxs: &'a [i32; 128],
     wys: &'a [i32; 128],
     wheld: &'a [u8; 128],
     winputs: &'a [i32; 1280],
     wteams: &'a [i32; 256],
-) -> Allowed
+) -> Result<i32, Refusal>
     ensures { AllowedIs tick result (may_reach
         (team_reader (reader_with s (entries_with marks.now xs.now ys.now held.now inputs.now)) teams.now)
         (team_board (board tick (entries_with wmarks.now wxs.now wys.now wheld.now winputs.now)) wteams.now)) }
@@ -271,21 +263,21 @@ pub fn may_reach<'a>(
         good_to(tick, wmarks, wxs, wys, wheld, winputs, wteams),
     );
     if !good {
-        return Allowed::No(Refusal::BadState);
+        return Err(Refusal::BadState);
     }
     if closed {
-        return Allowed::No(Refusal::Closed);
+        return Err(Refusal::Closed);
     }
     if mid {
-        return Allowed::No(Refusal::MidRecord);
+        return Err(Refusal::MidRecord);
     }
-    let BoardTick::In(u) = tick else {
-        return Allowed::No(Refusal::Unreachable);
+    let Some(u) = tick else {
+        return Err(Refusal::Unreachable);
     };
     if cant_reach(
         s, marks, xs, ys, held, teams, u, wmarks, wxs, wys, wheld, wteams,
     ) {
-        return Allowed::No(Refusal::Unreachable);
+        return Err(Refusal::Unreachable);
     }
-    Allowed::To(u)
+    Ok(u)
 }

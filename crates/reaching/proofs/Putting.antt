@@ -1,4 +1,5 @@
 -- The chosen records put one behind the other into memory that has room for them. Assumes nothing.
+use Rattle.std.specs.Prelude.{Option, Some, None, Result, Ok, Err}
 use Prim.Native.Nat.{ℕ, suc, ◌+◌, ◌*◌, ◌≤◌, ◌<◌}
 use mathlib.Core.Path.{◌≡◌, refl, sym, ◌∙◌, ap}
 use mathlib.Core.Bool.{Bool, true, false, cond}
@@ -14,20 +15,18 @@ use Rattle.num.proofs.Cases.{by_bool}
 use Rattle.refusal.specs.Said.{gives, refusing}
 use Rattle.refusal.specs.declared.Refusal.{Refusal}
 use Rattle.varint.specs.Written.{written, wrote_said, writing}
-use Rattle.varint.specs.declared.Wrote.{Wrote}
-use Rattle.varint.specs.declared.Wrote.TheVariants.{Past, Refused}
 use Rattle.packer.specs.Parts.{part, shown}
 use Rattle.packer.proofs.Joined.{written_length, nothing_put, two_puts}
 use Rattle.kinds.specs.declared.Version.{Version}
 use Rattle.item.specs.Records.{meaning}
 use Rattle.item.specs.Contents.{record_of}
+use Rattle.item.specs.declared.Record.{Record}
 use Rattle.written.specs.Written.{write_content, record_bytes}
-use Rattle.written.specs.Unwritable.{Writes}
+use Rattle.written.specs.Unwritable.{Writes, record_writable}
 use Rattle.record_writer.specs.steps.Puts.{PutsBytes}
 use Rattle.choice.specs.Chosen.{Rec, joined, is_some, bytes_of}
 use Rattle.choice.proofs.Lengths.{bytes_append, joined_le, some_bytes}
-use Rattle.choosing.specs.Choice.{choice_is, ChoosesIn}
-use Rattle.choosing.specs.declared.Choice.{Choice}
+use Rattle.choosing.specs.Choice.{choice_is, can_write, ChoosesIn}
 use Rattle.reaching.specs.steps.Puts.{Ready}
 
 -- ---- one choice
@@ -46,38 +45,40 @@ same_place m n e = cc
 no_refusal : {A : Type 0} (r : Refusal) (n : ℕ) → refusing r ≡ gives n 0 → A
 no_refusal r n e = let z : ◌≡◌ {A = ℕ} 0 1 = cc in absurd (omega arith)
 
-module _ (v : Version) (c : Choice) (xs : List ℕ) (at : ℕ) (h : Ready v c xs at) where
-  pub put_none : c.there ≡ false → PutsBytes xs at (bytes_of (choice_is c)) at xs
-  put_none e =
-      let b : bytes_of (choice_is c) ≡ [] = ap (λ (t : Bool). bytes_of (cond t (meaning [] (record_of c.value) ∷ []) [])) e ∙ none_bytes in
-      let r : at + length (bytes_of (choice_is c)) ≤ length xs = h.room in
-      rw b (omega arith, nothing_put xs at (omega arith))
+pub put_none : (v : Version) (c : Option Record) (xs : List ℕ) (at : ℕ) → Ready v c xs at → c ≡ None → PutsBytes xs at (bytes_of (choice_is c)) at xs
+put_none v c xs at h e =
+    let b : bytes_of (choice_is c) ≡ [] = ap (λ (d : Option Record). bytes_of (choice_is d)) e ∙ none_bytes in
+    let r : at + length (bytes_of (choice_is c)) ≤ length xs = h.room in
+    rw b (omega arith, nothing_put xs at (omega arith))
 
-  module _ (e : c.there ≡ true) (w : Wrote) (ys : List ℕ) (p : Writes v [] c.value xs at w ys) where
-    bytes_are : bytes_of (choice_is c) ≡ record_bytes [] c.value
-    unfolding record_bytes
-    bytes_are =
-        ap (λ (t : Bool). bytes_of (cond t (meaning [] (record_of c.value) ∷ []) [])) e ∙ one_bytes (meaning [] (record_of c.value))
+module _ (v : Version) (c : Option Record) (value : Record) (e : c ≡ Some value) (xs : List ℕ) (at : ℕ) (h : Ready v c xs at)
+    (w : Result ℕ Refusal) (ys : List ℕ) (p : Writes v [] value xs at w ys) where
+  bytes_are : bytes_of (choice_is c) ≡ record_bytes [] value
+  unfolding record_bytes
+  bytes_are = ap (λ (d : Option Record). bytes_of (choice_is d)) e ∙ one_bytes (meaning [] (record_of value))
 
-    fits : at + length (record_bytes [] c.value) ≤ length xs
-    fits = rw bytes_are at h.room
+  can : record_writable v [] value ≡ true
+  can = sym (ap (can_write v) e) ∙ h.writable
 
-    answered : wrote_said w ≡ gives (at + length (record_bytes [] c.value)) 0
-    unfolding writing
-    answered = p.answer ∙ rw (h.writable, le-leb (at + length (record_bytes [] c.value)) (length xs) fits)
+  fits : at + length (record_bytes [] value) ≤ length xs
+  fits = rw bytes_are at h.room
 
-    pub put_past : (next : ℕ) → w ≡ Past next → PutsBytes xs at (bytes_of (choice_is c)) next ys
-    put_past next ew =
-        rw bytes_are (
-          same_place next (at + length (record_bytes [] c.value)) (sym (ap wrote_said ew) ∙ answered),
-          p.target ∙ rw h.writable,
-        )
+  answered : wrote_said w ≡ gives (at + length (record_bytes [] value)) 0
+  unfolding writing
+  answered = p.answer ∙ rw (can, le-leb (at + length (record_bytes [] value)) (length xs) fits)
 
-    pub never_refused : {A : Type 0} (r : Refusal) → w ≡ Refused r → A
-    never_refused r ew = no_refusal r (at + length (record_bytes [] c.value)) (sym (ap wrote_said ew) ∙ answered)
+  pub put_past : (next : ℕ) → w ≡ Ok next → PutsBytes xs at (bytes_of (choice_is c)) next ys
+  put_past next ew =
+      rw bytes_are (
+        same_place next (at + length (record_bytes [] value)) (sym (ap wrote_said ew) ∙ answered),
+        p.target ∙ rw can,
+      )
+
+  pub never_refused : {A : Type 0} (r : Refusal) → w ≡ Err r → A
+  never_refused r ew = no_refusal r (at + length (record_bytes [] value)) (sym (ap wrote_said ew) ∙ answered)
 
 -- a choice of at most k bytes
-pub ready_at : (v : Version) (cs : List Rec) (k : ℕ) → length (bytes_of cs) ≤ k → (c : Choice) → ChoosesIn v cs c → (xs : List ℕ) (at : ℕ)
+pub ready_at : (v : Version) (cs : List Rec) (k : ℕ) → length (bytes_of cs) ≤ k → (c : Option Record) → ChoosesIn v cs c → (xs : List ℕ) (at : ℕ)
     → at + k ≤ length xs → Ready v c xs at
 ready_at v cs k f c h xs at room = record { writable = h.writable; room = rw h.is (omega arith) }
 
@@ -112,7 +113,7 @@ module _ (f : ℕ → List Rec) (n k : ℕ) (small : (i : ℕ) → i < n → len
   all_fit i h = omega (arith, front_le i h, mul-le-mul_right {m = i} {n = n} k h)
 
   module _ (i : ℕ) (under : i < n) (next : ℕ) (ys : List ℕ) (p : PutsBytes xs at (bytes_of (joined i f)) next ys) (v : Version)
-      (c : Choice) (h : ChoosesIn v (f i) c) where
+      (c : Option Record) (h : ChoosesIn v (f i) c) where
     turn_room_law : at + (i * k + k) ≤ length xs
     turn_room_law = omega (arith, mul-le-mul_right {m = suc i} {n = n} k (omega arith), suc-mul i k)
 

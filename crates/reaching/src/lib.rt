@@ -13,15 +13,14 @@ ghost use Rattle.choice.specs.Reaching.{ReachIs};
 ghost use Rattle.choosing.specs.Choice.{choice_is, ChoosesIn, Chooses, team_in};
 ghost use Rattle.reaching.specs.steps.Puts.{Ready, TeamsIn};
 
-use back::{BoardTick, TeamBoard};
+use back::TeamBoard;
 use choice::Held;
-use choosing::Choice;
+use item::Record;
 use kinds::Version;
 use packer::Part;
-use reachable::Allowed;
+use refusal::Refusal;
 use state::Scalars;
 use teams::TeamReader;
-use varint::Wrote;
 
 fn held_at<'a>(held: &'a [u8; 128], inputs: &'a [i32; 1280], c: usize) -> Held
     requires { c < 128 }
@@ -36,15 +35,14 @@ fn held_at<'a>(held: &'a [u8; 128], inputs: &'a [i32; 1280], c: usize) -> Held
 // ---- the chosen records, one behind the other
 
 // A record that can be written, if there is one, into memory that has room: the place past it.
-fn put(version: Version, choice: Choice, out: &mut [u8], at: usize) -> usize
+fn put(version: Version, choice: Option<Record>, out: &mut [u8], at: usize) -> usize
     requires { Ready version choice out.old at }
     ensures { PutsBytes out.old at (bytes_of (choice_is choice)) result out.new }
 {
-    if !choice.there {
+    let Some(value) = choice else {
         return at;
-    }
-    let value = choice.value;
-    let Wrote::Past(next) = record_writer::write_record(version, value, b"", out, at) else {
+    };
+    let Ok(next) = record_writer::write_record(version, value, b"", out, at) else {
         return at;
     };
     next
@@ -59,7 +57,7 @@ fn player_choice<'a>(
     wxs: &'a [i32; 128],
     wys: &'a [i32; 128],
     c: usize,
-) -> Choice
+) -> Option<Record>
     requires { c < 128 }
     ensures { (held : List ℕ) (inputs : List ℤ) (wheld : List ℕ) (winputs : List ℤ)
         → Chooses (player_for (entries_with marks.now xs.now ys.now held inputs)
@@ -79,7 +77,7 @@ fn input_choice<'a>(
     wheld: &'a [u8; 128],
     winputs: &'a [i32; 1280],
     c: usize,
-) -> Choice
+) -> Option<Record>
     requires { c < 128 }
     ensures { (marks : List ℕ) (xs ys : List ℤ) (wmarks : List ℕ) (wxs wys : List ℤ)
         → Chooses (input_for (entries_with marks xs ys held.now inputs.now)
@@ -93,7 +91,7 @@ fn input_choice<'a>(
 }
 
 // The PlayerTeam of a client, from its team to the wanted one.
-fn team_choice<'a>(teams: &'a [i32; 256], wteams: &'a [i32; 256], c: usize) -> Choice
+fn team_choice<'a>(teams: &'a [i32; 256], wteams: &'a [i32; 256], c: usize) -> Option<Record>
     requires { c < 128 }
     ensures { (v : Version) → team_in v (team_of wteams.now (pos c)) ≡ true
         → ChoosesIn v (team_for teams.now wteams.now c) result }
@@ -293,7 +291,7 @@ pub fn reach_lent<'a>(
     held: &'a [u8; 128],
     inputs: &'a [i32; 1280],
     teams: &'a [i32; 256],
-    tick: BoardTick,
+    tick: Option<i32>,
     wmarks: &'a [u8; 128],
     wxs: &'a [i32; 128],
     wys: &'a [i32; 128],
@@ -301,7 +299,7 @@ pub fn reach_lent<'a>(
     winputs: &'a [i32; 1280],
     wteams: &'a [i32; 256],
     out: &mut [u8],
-) -> Wrote
+) -> Result<usize, Refusal>
     ensures { ReachIs
         (team_reader (reader_with s (entries_with marks.now xs.now ys.now held.now inputs.now)) teams.now)
         (team_board (board tick (entries_with wmarks.now wxs.now wys.now wheld.now winputs.now)) wteams.now)
@@ -311,8 +309,8 @@ pub fn reach_lent<'a>(
         s, marks, xs, ys, held, inputs, teams, tick, wmarks, wxs, wys, wheld, winputs, wteams,
     );
     match allowed {
-        Allowed::No(why) => Wrote::Refused(why),
-        Allowed::To(u) => {
+        Err(why) => Err(why),
+        Ok(u) => {
             let mut bytes = memory();
             let n = put_all(
                 s, marks, xs, ys, held, inputs, teams, u, wmarks, wxs, wys, wheld, winputs, wteams,
@@ -324,7 +322,7 @@ pub fn reach_lent<'a>(
 }
 
 // The same for a reader and a board by value.
-pub fn reach(reader: TeamReader, board: TeamBoard, out: &mut [u8]) -> Wrote
+pub fn reach(reader: TeamReader, board: TeamBoard, out: &mut [u8]) -> Result<usize, Refusal>
     ensures { ReachIs reader board out.old result out.new }
 {
     let plain = reader.reader;

@@ -4,7 +4,7 @@
 // `more` stands, with the reader's place and the bytes at hand, wherever these run out; such a call is to change nothing.
 #![tactic(auto)]
 
-use kinds::{Version, VersionOf};
+use kinds::Version;
 use state::{Answer, Reader};
 use texts::Text;
 
@@ -105,8 +105,8 @@ fn read_body(version: Version, body: &[u8], first: Place) {
 fn run_input(whole: bool, input: &[u8]) {
     let body = cases::window(input, 1, input.len());
     match kinds::version_of(cases::first(input)) {
-        VersionOf::Is(version) => read_body(version, body, first_place(whole, body.len())),
-        VersionOf::Refused(r) => print(texts::refused(r)),
+        Ok(version) => read_body(version, body, first_place(whole, body.len())),
+        Err(r) => print(texts::refused(r)),
     }
 }
 

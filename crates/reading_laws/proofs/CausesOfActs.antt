@@ -1,4 +1,5 @@
 -- Each refusing act on a good reader has its cause, and each cause its act. Assumes nothing.
+use Rattle.std.specs.Prelude.{Option, Some, None}
 use Prim.Native.Nat.{ℕ, ◌+◌, ◌<◌}
 use mathlib.Core.Path.{◌≡◌, refl, sym, subst, ap}
 use mathlib.Core.Bool.{Bool, true, false≢true}
@@ -32,9 +33,6 @@ use Rattle.state.specs.State.{Memory, reader_with, good_scalars}
 use Rattle.state.specs.Reading.{Event, Step, next_tick, next_kind}
 use Rattle.state.specs.Acts.{HadKind, Had, first_of, MayRead, WhyPlain, WhyPlayer, WhyInput, Act}
 use Rattle.state.specs.Acts as act
-use Rattle.state.specs.declared.Next.TheVariants.{Past}
-use Rattle.state.specs.declared.Pending.{Pending}
-use Rattle.state.specs.declared.Pending.TheVariants.{Is, NoKind}
 use Rattle.state.specs.declared.Entries.{Entries}
 use Rattle.state.specs.declared.Scalars.{Scalars}
 use Rattle.state.specs.declared.Reader.{Reader}
@@ -58,12 +56,12 @@ module _ {C : Type 0} {k : ℕ} {vs : List ℤ} where
 
 -- ---- the kind of the next record: read where none is pending
 
-next_refused : (v : Version) (p : Pending) (w : List ℕ) (r : Refusal) → next_kind v p w ≡ refused r → (p ≡ NoKind) × (read_kind v w 0 ≡ refused r)
+next_refused : (v : Version) (p : Option Kind) (w : List ℕ) (r : Refusal) → next_kind v p w ≡ refused r → (p ≡ None) × (read_kind v w 0 ≡ refused r)
 unfolding next_kind
-next_refused v NoKind w r e = (refl, e)
-next_refused v (Is k) w r e = let z : ◌≡◌ {A = ℕ} 0 1 = cc in absurd (omega arith)
+next_refused v None w r e = (refl, e)
+next_refused v (Some k) w r e = let z : ◌≡◌ {A = ℕ} 0 1 = cc in absurd (omega arith)
 
-refused_next : (v : Version) (p : Pending) (w : List ℕ) (r : Refusal) → p ≡ NoKind → read_kind v w 0 ≡ refused r → next_kind v p w ≡ refused r
+refused_next : (v : Version) (p : Option Kind) (w : List ℕ) (r : Refusal) → p ≡ None → read_kind v w 0 ≡ refused r → next_kind v p w ≡ refused r
 unfolding next_kind
 refused_next v p w r o e = rw o e
 
@@ -74,7 +72,7 @@ pub record Late (z : ℤ) (k : ℕ) : Type 0 where
   pub is : z ≡ pos tick
   pub late : 2147483647 < tick + 1 + k
 
-past_late : (z : ℤ) (k : ℕ) → non_neg z ≡ true → next_tick z k ≡ Past → Late z k
+past_late : (z : ℤ) (k : ℕ) → non_neg z ≡ true → next_tick z k ≡ None → Late z k
 unfolding next_tick
 past_late (pos t) k g e =
     by_bool (ltb 2147483647 (t + k + 1))
@@ -82,7 +80,7 @@ past_late (pos t) k g e =
     (λ b. let x = rw b at e in let z : ◌≡◌ {A = ℕ} 0 1 = cc in absurd (omega arith))
 past_late (negsuc t) k g e = absurd (false≢true g)
 
-late_past : (z : ℤ) (k t : ℕ) → z ≡ pos t → 2147483647 < t + 1 + k → next_tick z k ≡ Past
+late_past : (z : ℤ) (k t : ℕ) → z ≡ pos t → 2147483647 < t + 1 + k → next_tick z k ≡ None
 unfolding next_tick
 late_past z k t e l =
     let b : ltb 2147483647 (t + k + 1) ≡ true = lt-ltb 2147483647 (t + k + 1) (omega arith) in rw (e, b)
@@ -91,7 +89,7 @@ late_past z k t e l =
 
 pub record DtRead (w : List ℕ) (at dt : ℕ) : Type 0 where
   pub next : ℕ
-  pub remark : Remark
+  pub remark : Option Remark
   pub read : read_int w at ≡ ints.Got (pos dt) next remark
 
 dt_read : (w : List ℕ) (at : ℕ) {c : Content Part} {n : ℕ} (i : IntRead) → read_int w at ≡ i
@@ -108,7 +106,7 @@ skip_read : {s : Scalars} {w : List ℕ} {c : Content Part} {n : ℕ} (h : Had s
 unfolding read_rest
 skip_read {w = w} h = dt_read w h.at (read_int w h.at) refl h.rest
 
-skip_had : {s : Scalars} {w : List ℕ} {n dt next : ℕ} {m : Remark} → HadKind s w kinds.TickSkip n → read_int w n ≡ ints.Got (pos dt) next m
+skip_had : {s : Scalars} {w : List ℕ} {n dt next : ℕ} {m : Option Remark} → HadKind s w kinds.TickSkip n → read_int w n ≡ ints.Got (pos dt) next m
     → Had s w kinds.TickSkip (content (Plain kinds.TickSkip) (num (pos dt) ∷ [])) next
 unfolding read_rest
 skip_had {n = n} h e = record { at = n; kind = h; rest = rw e }

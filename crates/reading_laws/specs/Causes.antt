@@ -1,5 +1,5 @@
 -- Each refusal of a reading call: its cause, and exactly the reader that it leaves. docs/FORMAT.md, "What a call may say".
-use Rattle.std.specs.Prelude.{ℕ, ◌+◌, ◌<◌, ◌≡◌, Bool, true, false, List, ℤ, pos, negsuc}
+use Rattle.std.specs.Prelude.{ℕ, ◌+◌, ◌<◌, ◌≡◌, Bool, true, false, List, ℤ, pos, negsuc, Option, Some, None}
 use Rattle.refusal.specs.declared.Refusal.{Refusal}
 use Rattle.refusal.specs.declared.Refusal.TheVariants as refusal
 use Rattle.varint.specs.Integers.{read_int}
@@ -9,12 +9,10 @@ use Rattle.packer.specs.declared.Part.{Part}
 use Rattle.item.specs.Records.{Content}
 use Rattle.kinds.specs.declared.Kind.{Kind}
 use Rattle.kinds.specs.declared.Kind.TheVariants as kinds
-use Rattle.kinds.specs.declared.Cid.TheVariants.{Of}
 use Rattle.causes.specs.Causes.{KindRefused, RestRefused}
 use Rattle.state.specs.State.{present, holds, with_player, reader_with, good_reader}
 use Rattle.state.specs.Reading.{is_closed, closing, raising, naming, at_or_below}
 use Rattle.state.specs.Acts.{HadKind, Had, first_of, second_of, PlayerKind, InputKind, MayCome, MayRead, BytesRunOut}
-use Rattle.state.specs.declared.Pending.TheVariants.{NoKind}
 use Rattle.state.specs.declared.Entries.{Entries}
 use Rattle.state.specs.declared.Standing.TheVariants.{Refused}
 use Rattle.state.specs.declared.Scalars.{Scalars}
@@ -31,7 +29,7 @@ closed s e = reader_with (closing Refused s) e
 
 -- closed, and the largest client raised to c
 abbrev pub closed_raised : ℤ → Scalars → Entries → Reader
-closed_raised c s e = closed (raising (Of c) s) e
+closed_raised c s e = closed (raising (Some c) s) e
 
 -- closed, the largest client raised to c, and c remembered
 abbrev pub closed_named : ℤ → Scalars → Entries → Reader
@@ -42,7 +40,7 @@ pub data Refuses (s : Scalars) (e : Entries) (w : List ℕ) (last : Bool) : Refu
   -- 3: the bytes needed run out, and no more come
   unexpected_end : last ≡ true → BytesRunOut s w → Refuses s e w last refusal.UnexpectedEnd (closed s e)
   -- 4: a kind is read, none being pending, and it is unknown
-  in_kind : {r : Refusal} → s.pending ≡ NoKind → KindRefused s.version w 0 r → Refuses s e w last r (closed s e)
+  in_kind : {r : Refusal} → s.pending ≡ None → KindRefused s.version w 0 r → Refuses s e w last r (closed s e)
   -- 5 to 7 and 21: the rest of a record that may be read is refused
   in_rest : {k : Kind} {n : ℕ} {r : Refusal} → HadKind s w k n → MayRead s k → RestRefused w n k r → Refuses s e w last r (closed s e)
   -- 8: a negative client in PlayerNew or PlayerOld, in InputDiff or InputNew
@@ -58,7 +56,7 @@ pub data Refuses (s : Scalars) (e : Entries) (w : List ℕ) (last : Bool) : Refu
   -- 12: the tick would pass 2147483647, at the end of a tick (rule 3) or by a TickSkip
   end_overflow : {k : Kind} {n t : ℕ} {c : ℤ} → HadKind s w k n → PlayerKind k c → s.inside ≡ true → at_or_below c s.remembered ≡ true
       → s.tick ≡ pos t → 2147483647 < t + 1 → Refuses s e w last refusal.TickOverflow (closed s e)
-  skip_overflow : {n t dt next : ℕ} {remark : Remark} → HadKind s w kinds.TickSkip n → read_int w n ≡ ints.Got (pos dt) next remark
+  skip_overflow : {n t dt next : ℕ} {remark : Option Remark} → HadKind s w kinds.TickSkip n → read_int w n ≡ ints.Got (pos dt) next remark
       → s.tick ≡ pos t → 2147483647 < t + 1 + dt → Refuses s e w last refusal.TickOverflow (closed s e)
   -- 13: PlayerNew of a client that is present; its position is overwritten
   duplicate : {c n : ℕ} {r : Content Part} → Had s w (kinds.PlayerNew (pos c)) r n → MayCome s (pos c) → present e c ≡ true

@@ -1,4 +1,5 @@
 -- Answers taken apart: of a writer, of the record call, and what a reading means. Assumes nothing.
+use Rattle.std.specs.Prelude.{Result, Ok, Err}
 use Prim.Native.Nat.{ℕ, ◌+◌, ◌≤◌}
 use mathlib.Core.Path.{◌≡◌, refl, ap}
 use mathlib.Core.Bool.{Bool, true, false, cond}
@@ -7,11 +8,10 @@ use native.Mathlib.Omega.{arith}
 use lib.ListN.{length, take, drop}
 use lib.Seq.{take_at, drop_at, length-take-le}
 use borrow.Author.Tests.{leb-true, le-leb}
+use Rattle.refusal.specs.declared.Refusal.{Refusal}
 use Rattle.refusal.specs.Said.{gives, refusing}
 use Rattle.refusal.specs.declared.Refusal.TheVariants.{ShortTarget}
 use Rattle.varint.specs.Written.{fits_at, written, wrote_said, writing}
-use Rattle.varint.specs.declared.Wrote.{Wrote}
-use Rattle.varint.specs.declared.Wrote.TheVariants.{Past, Refused}
 use Rattle.packer.specs.declared.Part.{Part}
 use Rattle.fields.specs.Fields.{Reading, got, runs_out, refused}
 use Rattle.item.specs.Records.{Content, meaning}
@@ -24,9 +24,9 @@ use Rattle.written.specs.Laws.{meant}
 
 -- ---- a writer
 
-pub past_is : (w : Wrote) (n : ℕ) → wrote_said w ≡ gives n 0 → w ≡ Past n
-past_is (Past m) n e = cc
-past_is (Refused r) n e = cc
+pub past_is : (w : Result ℕ Refusal) (n : ℕ) → wrote_said w ≡ gives n 0 → w ≡ Ok n
+past_is (Ok m) n e = cc
+past_is (Err r) n e = cc
 
 fits_past : (fits : Bool) (n next : ℕ) → cond fits (gives n 0) (refusing ShortTarget) ≡ gives next 0 → (fits ≡ true) × (next ≡ n)
 fits_past true n next e = (refl, cc)
@@ -67,7 +67,7 @@ written_there xs at bs n l h =
 pub said_got : (a : CallAnswer) (r : Record) (d : Content Part) (n : ℕ) → said_by a r ≡ gives d n → (a ≡ calls.Got n) × (record_of r ≡ d)
 said_got (calls.Got m) r d n e = (cc, cc)
 said_got calls.More r d n e = (cc, cc)
-said_got (calls.Refused q) r d n e = (cc, cc)
+said_got (calls.Err q) r d n e = (cc, cc)
 
 -- ---- what a reading means
 

@@ -1,9 +1,9 @@
 -- What the record call and the writer's call promise determines what they hand back. Assumes nothing.
+use Rattle.std.specs.Prelude.{Result, Ok, Err}
 use Prim.Native.Nat.{ℕ}
 use mathlib.Core.Path.{◌≡◌, refl, sym, ◌∙◌, ap}
+use Rattle.refusal.specs.declared.Refusal.{Refusal}
 use Rattle.varint.specs.Written.{wrote_said}
-use Rattle.varint.specs.declared.Wrote.{Wrote}
-use Rattle.varint.specs.declared.Wrote.TheVariants as wrote
 use Rattle.packer.specs.declared.Part.{Part}
 use Rattle.item.specs.Records.{Content}
 use Rattle.item.specs.Contents.{record_of}
@@ -38,11 +38,11 @@ call_determined v s last a b x y =
     let p = same_call a.answer b.answer a.value b.value (x.said ∙ sym y.said) x.tidy y.tidy in
     ap (λ (n : CallAnswer). call_with n a.value) p.0 ∙ ap (call_with b.answer) p.1
 
-same_wrote : (a b : Wrote) → wrote_said a ≡ wrote_said b → a ≡ b
-same_wrote (wrote.Past m) (wrote.Past n) e = cc
-same_wrote (wrote.Past m) (wrote.Refused o) e = cc
-same_wrote (wrote.Refused p) (wrote.Past n) e = cc
-same_wrote (wrote.Refused p) (wrote.Refused o) e = ap wrote.Refused (same_refusal {A = ℕ} p o e)
+same_wrote : (a b : Result ℕ Refusal) → wrote_said a ≡ wrote_said b → a ≡ b
+same_wrote (Ok m) (Ok n) e = cc
+same_wrote (Ok m) (Err o) e = cc
+same_wrote (Err p) (Ok n) e = cc
+same_wrote (Err p) (Err o) e = ap Err (same_refusal {A = ℕ} p o e)
 
 pub write_determined : WriteDetermined
 write_determined v s r xs at a b ys zs x y = (same_wrote a b (x.answer ∙ sym y.answer), x.target ∙ sym y.target)

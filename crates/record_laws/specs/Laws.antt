@@ -1,13 +1,11 @@
 -- What holds of the record call and of the writer's call, as statements; proofs/Theorems.antt proves each. docs/FORMAT.md, "What a call
 -- may say", "Records" and "The writer".
-use Rattle.std.specs.Prelude.{ℕ, ◌+◌, ◌-◌, ◌≤◌, ◌≡◌, Bool, true, List, ◌++◌, ◌↔◌, ◌⊎◌, length, take, drop, ℤ}
+use Rattle.std.specs.Prelude.{ℕ, ◌+◌, ◌-◌, ◌≤◌, ◌≡◌, Bool, true, List, ◌++◌, ◌↔◌, ◌⊎◌, length, take, drop, ℤ, Result, Ok}
 use Rattle.refusal.specs.Numbers.{number_of, values_of}
 use Rattle.refusal.specs.Said.{refuses}
 use Rattle.refusal.specs.declared.Refusal.{Refusal}
 use Rattle.refusal.specs.declared.Refusal.TheVariants.{UnexpectedEnd}
 use Rattle.varint.specs.Laws.{Bytes}
-use Rattle.varint.specs.declared.Wrote.{Wrote}
-use Rattle.varint.specs.declared.Wrote.TheVariants.{Past}
 use Rattle.fields.specs.Fields.{runs_out}
 use Rattle.item.specs.Records.{meaning, read_record, record_call}
 use Rattle.item.specs.Remarks.{record_remarks}
@@ -31,8 +29,8 @@ pub record ReadBack (v : Version) (s : List ℕ) (r : Record) (window : List ℕ
 -- the window begins with the bytes that stand in the target from `at` to `next`
 abbrev pub WrittenCalled : Type 0
 WrittenCalled =
-    (v : Version) (s : List ℕ) (r : Record) → TypedRecord r → (xs : List ℕ) (at : ℕ) (w : Wrote) (ys : List ℕ) → Writes v s r xs at w ys
-    → (next : ℕ) → w ≡ Past next → (window after : List ℕ) → window ≡ take (next - at) (drop at ys) ++ after
+    (v : Version) (s : List ℕ) (r : Record) → TypedRecord r → (xs : List ℕ) (at : ℕ) (w : Result ℕ Refusal) (ys : List ℕ) → Writes v s r xs at w ys
+    → (next : ℕ) → w ≡ Ok next → (window after : List ℕ) → window ≡ take (next - at) (drop at ys) ++ after
     → (last : Bool) (c : RecordCall) → Called v window last c → ReadBack v s r window (next - at) c
 
 -- ---- read without a remark and without spare payload, and written into a target with room: the same bytes
@@ -40,8 +38,8 @@ WrittenCalled =
 abbrev pub CalledWritten : Type 0
 CalledWritten =
     (v : Version) (s : List ℕ) → Bytes s → (last : Bool) (c : RecordCall) → Called v s last c → (used : ℕ) → c.answer ≡ Got used
-    → record_remarks v s 0 ≡ 0 → (xs : List ℕ) (at : ℕ) → at + used ≤ length xs → (w : Wrote) (ys : List ℕ) → Writes v s c.value xs at w ys
-    → (w ≡ Past (at + used)) × (ys ≡ take at xs ++ take used s ++ drop (at + used) xs)
+    → record_remarks v s 0 ≡ 0 → (xs : List ℕ) (at : ℕ) → at + used ≤ length xs → (w : Result ℕ Refusal) (ys : List ℕ) → Writes v s c.value xs at w ys
+    → (w ≡ Ok (at + used)) × (ys ≡ take at xs ++ take used s ++ drop (at + used) xs)
 
 -- ---- what the calls promise determines what they hand back
 
@@ -50,7 +48,7 @@ CallDetermined = (v : Version) (s : List ℕ) (last : Bool) (a b : RecordCall) �
 
 abbrev pub WriteDetermined : Type 0
 WriteDetermined =
-    (v : Version) (s : List ℕ) (r : Record) (xs : List ℕ) (at : ℕ) (a b : Wrote) (ys zs : List ℕ)
+    (v : Version) (s : List ℕ) (r : Record) (xs : List ℕ) (at : ℕ) (a b : Result ℕ Refusal) (ys zs : List ℕ)
     → Writes v s r xs at a ys → Writes v s r xs at b zs → (a ≡ b) × (ys ≡ zs)
 
 -- ---- the record call refuses 3 to 7 and 21 only, each exactly for its cause

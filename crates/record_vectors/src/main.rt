@@ -8,7 +8,7 @@ ghost use Rattle.std.specs.Prelude.{◌<◌};
 
 use extensions::Extension;
 use item::{Record, Tag};
-use kinds::{Cid, Version};
+use kinds::Version;
 use packer::Part;
 use record_call::{CallAnswer, RecordCall};
 use refusal::Refusal;
@@ -143,8 +143,8 @@ fn print_args(w: &[u8], count: usize, parts: [Part; 16]) {
     }
 }
 
-fn print_client(cid: Cid) {
-    if let Cid::Of(c) = cid {
+fn print_client(cid: Option<i32>) {
+    if let Some(c) = cid {
         print_signed(c);
     }
 }

@@ -1,26 +1,26 @@
 -- Bytes put one after the other into a target that has room for them. Assumes nothing.
+use Rattle.std.specs.Prelude.{Result, Ok}
 use Prim.Native.Nat.{ℕ, ◌+◌}
 use mathlib.Core.Path.{◌≡◌, sym, ◌∙◌, ap}
 use mathlib.Core.List.{List, [], ◌++◌}
 use native.Mathlib.Omega.{arith}
 use native.Mathlib.Nat.{add-zero}
 use lib.ListN.{length, length-append}
+use Rattle.refusal.specs.declared.Refusal.{Refusal}
 use Rattle.varint.specs.Written.{written}
 use Rattle.varint.specs.steps.Writing.{wrote}
-use Rattle.varint.specs.declared.Wrote.{Wrote}
-use Rattle.varint.specs.declared.Wrote.TheVariants.{Past}
 use Rattle.varint.proofs.Writing.{fits_answer}
 use Rattle.packer.proofs.Joined.{written_length, joined, nothing_put}
 use Rattle.record_writer.specs.steps.Puts.{past_of, HasRoom, PutsBytes}
 
 -- what a call that wrote them tells
-pub put_past : (xs : List ℕ) (at : ℕ) (bs : List ℕ) → HasRoom xs at bs → {w : Wrote} {ys : List ℕ} {next : ℕ}
+pub put_past : (xs : List ℕ) (at : ℕ) (bs : List ℕ) → HasRoom xs at bs → {w : Result ℕ Refusal} {ys : List ℕ} {next : ℕ}
     → w ≡ wrote xs at bs → ys ≡ written xs at bs → next ≡ past_of w at → PutsBytes xs at bs next ys
 put_past xs at bs h p q r = (r ∙ ap (λ v. past_of v at) (p ∙ sym (fits_answer xs at bs h)), q)
 
 -- what a call answers that has nothing to put
-pub put_none : (xs : List ℕ) (at : ℕ) → HasRoom xs at [] → (Past at ≡ wrote xs at []) × (xs ≡ written xs at [])
-put_none xs at h = (ap Past (sym (add-zero at)) ∙ fits_answer xs at [] h, nothing_put xs at (omega arith))
+pub put_none : (xs : List ℕ) (at : ℕ) → HasRoom xs at [] → (Ok at ≡ wrote xs at []) × (xs ≡ written xs at [])
+put_none xs at h = (ap Ok (sym (add-zero at)) ∙ fits_answer xs at [] h, nothing_put xs at (omega arith))
 
 -- ---- a loop that puts: what is left makes of the target what all makes of the first one
 

@@ -1,4 +1,5 @@
 -- What the room that a record leaves tells of the target. Assumes nothing.
+use Rattle.std.specs.Prelude.{Result, Err}
 use Prim.Native.Nat.{ℕ, ◌-◌}
 use mathlib.Core.Path.{◌≡◌, refl, sym, ◌∙◌}
 use mathlib.Core.Bool.{Bool, true, false}
@@ -7,12 +8,11 @@ use native.Mathlib.Omega.{arith}
 use lib.ListN.{length}
 use lib.Dec.{leb}
 use borrow.Author.Tests.{leb-true, leb-false}
+use Rattle.refusal.specs.declared.Refusal.{Refusal}
 use Rattle.num.proofs.Cases.{by_bool}
 use Rattle.refusal.specs.declared.Refusal.TheVariants as refusals
 use Rattle.varint.specs.Written.{written_if}
 use Rattle.varint.specs.steps.Writing.{wrote_if}
-use Rattle.varint.specs.declared.Wrote.{Wrote}
-use Rattle.varint.specs.declared.Wrote.TheVariants.{Refused}
 use Rattle.varint.proofs.Writing.{short}
 use Rattle.record_writer.specs.steps.Room.{left_after, room_at}
 use Rattle.record_writer.specs.declared.Left.{Left}
@@ -35,7 +35,7 @@ module _ (k : ℕ) where
 
 module _ (xs : List ℕ) (at : ℕ) (ok : Bool) (bs : List ℕ) where
   -- what was refused left the target
-  abbrev Kept : Wrote → Type 0
+  abbrev Kept : Result ℕ Refusal → Type 0
   Kept w = (w ≡ wrote_if ok xs at bs) × (xs ≡ written_if ok xs at bs)
 
   module _ (l : Left) (e : l ≡ left_after (room_at (length xs) at) ok (length bs)) where
@@ -47,7 +47,7 @@ module _ (xs : List ℕ) (at : ℕ) (ok : Bool) (bs : List ℕ) where
         (h.0, omega (arith, h.1.0, leb-true at (length xs) t)))
         (λ t. absurd (none_left (length bs) ok m (rw t at (sym e ∙ g))))
 
-    pub no_room : l ≡ Short → Kept (Refused refusals.ShortTarget)
+    pub no_room : l ≡ Short → Kept (Err refusals.ShortTarget)
     no_room g =
         by_bool (leb at (length xs))
         (λ t.
@@ -57,7 +57,7 @@ module _ (xs : List ℕ) (at : ℕ) (ok : Bool) (bs : List ℕ) where
         let h = still_short (length bs) ok (rw t at (sym e ∙ g)) in
         rw h (short xs at bs (omega (arith, leb-false at (length xs) t))))
 
-    pub no_form : l ≡ Unwritable → Kept (Refused refusals.Unwritable)
+    pub no_form : l ≡ Unwritable → Kept (Err refusals.Unwritable)
     no_form g =
         by_bool (leb at (length xs))
         (λ t. rw (not_ok (length xs - at) (length bs) ok (rw t at (sym e ∙ g))) (refl, refl))

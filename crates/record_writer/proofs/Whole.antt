@@ -1,11 +1,12 @@
 -- A record is its content, and its outline writes it. Assumes nothing.
+use Rattle.std.specs.Prelude.{Result}
 use Prim.Native.Nat.{ℕ}
 use mathlib.Core.Path.{◌≡◌, refl, sym, ◌∙◌, ap}
 use mathlib.Core.Bool.{Bool, true, false}
 use mathlib.Core.List.{List}
+use Rattle.refusal.specs.declared.Refusal.{Refusal}
 use Rattle.varint.specs.Written.{written_if, wrote_said}
 use Rattle.varint.specs.steps.Writing.{wrote_if}
-use Rattle.varint.specs.declared.Wrote.{Wrote}
 use Rattle.varint.proofs.Theorems.{writers_say}
 use Rattle.packer.specs.declared.Part.{Part}
 use Rattle.item.specs.Records.{Content}
@@ -35,7 +36,7 @@ module _ (v : Version) (s : List ℕ) (r : Record) (c : Content Part) (e : c ≡
   unfolding content_bytes record_bytes write_content
   record_bytes_law = rw e
 
-  module _ (o : Outline) (p : Outlines v s c r.input r.args o) (xs : List ℕ) (at : ℕ) (w : Wrote) (ys : List ℕ) where
+  module _ (o : Outline) (p : Outlines v s c r.input r.args o) (xs : List ℕ) (at : ℕ) (w : Result ℕ Refusal) (ys : List ℕ) where
     pub outline_writes : let ps = pieces_of o r.input r.args in
         (w ≡ wrote_if (pieces_ok s ps) xs at (pieces_bytes s ps)) × (ys ≡ written_if (pieces_ok s ps) xs at (pieces_bytes s ps)) → Writes v s r xs at w ys
     outline_writes q =

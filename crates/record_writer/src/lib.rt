@@ -22,7 +22,6 @@ use packer::Part;
 use pieces::{Outline, Piece};
 use refusal::Refusal;
 use shapes::Fields;
-use varint::Wrote;
 
 // The bytes of room that are left, that there are too few, or that something can't be written.
 #[derive(Clone, Copy)]
@@ -169,12 +168,12 @@ fn outline_of(
 // ---- its pieces, put one after the other
 
 // The place past what was written, or else the other.
-fn past(answer: Wrote, other: usize) -> usize
+fn past(answer: Result<usize, Refusal>, other: usize) -> usize
     ensures { result ≡ past_of answer other }
 {
     match answer {
-        Wrote::Past(next) => next,
-        Wrote::Refused(_) => other,
+        Ok(next) => next,
+        Err(_) => other,
     }
 }
 
@@ -192,19 +191,19 @@ fn put_id(which: Extension, out: &mut [u8], at: usize) -> usize
 }
 
 // A piece that can be written and fits.
-fn write_piece(s: &[u8], piece: Piece, out: &mut [u8], at: usize) -> Wrote
+fn write_piece(s: &[u8], piece: Piece, out: &mut [u8], at: usize) -> Result<usize, Refusal>
     requires { Ready (piece_ok s.now piece) out.old at (piece_bytes s.now piece) }
     ensures answer { result ≡ wrote out.old at (piece_bytes s.now piece) }
     ensures target { out.new ≡ written out.old at (piece_bytes s.now piece) }
 {
     match piece {
-        Piece::Empty => Wrote::Past(at),
-        Piece::Never => Wrote::Past(at),
+        Piece::Empty => Ok(at),
+        Piece::Never => Ok(at),
         Piece::Int(value) => int_writer::write_int(value, out, at),
         Piece::Raw(p) => text_writer::write_raw(packer::show(s, p), out, at),
         Piece::Str(p) => text_writer::write_string(packer::show(s, p), out, at),
         Piece::Data(p) => text_writer::write_data(packer::show(s, p), out, at),
-        Piece::Id(which) => Wrote::Past(put_id(which, out, at)),
+        Piece::Id(which) => Ok(put_id(which, out, at)),
     }
 }
 
@@ -245,21 +244,27 @@ fn write_outline(
     args: Args,
     out: &mut [u8],
     at: usize,
-) -> Wrote
+) -> Result<usize, Refusal>
     ensures answer { result ≡ wrote_if (pieces_ok s.now (pieces_of o ten args)) out.old at (pieces_bytes s.now (pieces_of o ten args)) }
     ensures target { out.new ≡ written_if (pieces_ok s.now (pieces_of o ten args)) out.old at (pieces_bytes s.now (pieces_of o ten args)) }
 {
     let left = measure(room_at(out.len(), at), o, s, ten, args);
     match left {
-        Left::Room(_) => Wrote::Past(put_pieces(o, s, ten, args, out, at)),
-        Left::Short => Wrote::Refused(Refusal::ShortTarget),
-        Left::Unwritable => Wrote::Refused(Refusal::Unwritable),
+        Left::Room(_) => Ok(put_pieces(o, s, ten, args, out, at)),
+        Left::Short => Err(Refusal::ShortTarget),
+        Left::Unwritable => Err(Refusal::Unwritable),
     }
 }
 
 // The record's bytes into the target, at a place, and nothing else: 11 where one of the eight tests of `record_writable` holds, then 9
 // where the target is too short.
-pub fn write_record(version: Version, value: Record, s: &[u8], out: &mut [u8], at: usize) -> Wrote
+pub fn write_record(
+    version: Version,
+    value: Record,
+    s: &[u8],
+    out: &mut [u8],
+    at: usize,
+) -> Result<usize, Refusal>
     ensures { Writes version s.now value out.old at result out.new }
 {
     let item = value.item;

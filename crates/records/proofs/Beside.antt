@@ -1,4 +1,5 @@
 -- Records with nothing beside them, and records without what stands beside them. Assumes nothing.
+use Rattle.std.specs.Prelude.{Option, Some, None}
 use Prim.Native.Nat.{ℕ}
 use mathlib.Core.Path.{◌≡◌, refl, sym, ◌∙◌, ap}
 use mathlib.Core.List.{List, [], ◌∷◌, ◌++◌, append-nil}
@@ -16,8 +17,6 @@ use Rattle.shapes.specs.steps.Shapes.{fields_in}
 use Rattle.shapes.specs.declared.Shape.{Shape}
 use Rattle.extensions.specs.Extensions.{Payload, shaped, all_data, payload_at, find}
 use Rattle.extensions.specs.declared.Extension.{Extension}
-use Rattle.extensions.specs.declared.Found.{Found}
-use Rattle.extensions.specs.declared.Found.TheVariants.{Known, Unknown}
 use Rattle.item.specs.Records.{Content, content, as_content, of_payload, of_found, read_ex, read_rest}
 use Rattle.item.specs.steps.Reading.{up_to, after_data, after_id}
 use Rattle.item.specs.Contents.{item_of, no_args, record_with, record_of}
@@ -70,9 +69,9 @@ lone_payload s p k (shaped fs) next =
     lone_up next (as_content (Named k) x) (lone_as (Named k) (lone_named k) x)
 lone_payload s p k all_data next = lone_named k
 
-lone_found : (s : List ℕ) (id p : Part) (f : Found) (next : ℕ) → AllLone (of_found s id p f next)
-lone_found s id p (Known k) next = lone_payload s p k (payload_at k) next
-lone_found s id p Unknown next = record { none = refl; tidy = λ r. refl }
+lone_found : (s : List ℕ) (id p : Part) (f : Option Extension) (next : ℕ) → AllLone (of_found s id p f next)
+lone_found s id p (Some k) next = lone_payload s p k (payload_at k) next
+lone_found s id p None next = record { none = refl; tidy = λ r. refl }
 
 lone_data : (s : List ℕ) (id : Part) (x : DataRead) → AllLone (after_data s id x)
 lone_data s id (blobs.Got p next) = lone_found s id p (find (shown s id)) next

@@ -1,4 +1,5 @@
 -- The rest of a record, by how the code goes on after its kind. Assumes nothing.
+use Rattle.std.specs.Prelude.{Option}
 use Prim.Native.Nat.{ℕ}
 use mathlib.Core.Path.{◌≡◌, refl, sym, ◌∙◌, ap}
 use mathlib.Core.Bool.{true, false}
@@ -8,6 +9,7 @@ use lib.IntN.{ℤ, pos, negsuc}
 use lib.Signed.{mag, lt_z}
 use mir.Syntax.{w32}
 use mir.Val.{SFits, to_z, of_z}
+use Rattle.extensions.specs.declared.Extension.{Extension}
 use Rattle.num.proofs.Signs.{below_zero}
 use Rattle.refusal.specs.declared.Refusal.TheVariants.{NegativeDt, NegativeLength}
 use Rattle.varint.specs.Integers.{read_int}
@@ -108,16 +110,16 @@ module _ (s : List ℕ) (at : ℕ) where
   unfolding read_rest
   dt_out e = rw e
 
-  dt_negative : (n next : ℕ) (r : Remark) → read_int s at ≡ ints.Got (negsuc n) next r → refused NegativeDt ≡ read_rest kinds.TickSkip s at
+  dt_negative : (n next : ℕ) (r : Option Remark) → read_int s at ≡ ints.Got (negsuc n) next r → refused NegativeDt ≡ read_rest kinds.TickSkip s at
   unfolding read_rest
   dt_negative n next r e = rw e
 
   -- by the code's test
-  pub dt_below : (z : ℤ) (next : ℕ) (r : Remark) → SFits w32 z → lt_z (to_z w32 (of_z w32 z)) (pos 0) ≡ true → read_int s at ≡ ints.Got z next r
+  pub dt_below : (z : ℤ) (next : ℕ) (r : Option Remark) → SFits w32 z → lt_z (to_z w32 (of_z w32 z)) (pos 0) ≡ true → read_int s at ≡ ints.Got z next r
       → refused NegativeDt ≡ read_rest kinds.TickSkip s at
   dt_below z next r h t e = dt_negative (mag z) next r (e ∙ ap (λ (y : ℤ). ints.Got y next r) (below_zero z h t))
 
-  pub dt_got : (n next : ℕ) (r : Remark) → read_int s at ≡ ints.Got (pos n) next r
+  pub dt_got : (n next : ℕ) (r : Option Remark) → read_int s at ≡ ints.Got (pos n) next r
       → got (content (Plain kinds.TickSkip) (num (pos n) ∷ [])) next ≡ read_rest kinds.TickSkip s at
   unfolding read_rest
   dt_got n next r e = rw e

@@ -1,8 +1,8 @@
 -- The ten numbers of a row tell what was kept. Assumes nothing.
+use Rattle.std.specs.Prelude.{Some, None}
 use mathlib.Core.Path.{◌≡◌, refl}
 use mathlib.Core.Bool.{true, false}
 use lib.ListN.{length}
-use Rattle.teams.specs.declared.Team.TheVariants.{Number, NoTeam}
 use Rattle.back.specs.declared.Undo.{Undo}
 use Rattle.back.specs.declared.Undo.TheVariants.{Start, End, New, Change, Old, Input, Team, Nothing}
 use Rattle.reel.specs.Reel.{numbers_of, undo_in}
@@ -16,8 +16,8 @@ undo_told (Change c x y old-x old-y) = refl
 undo_told (Old c x y) = refl
 undo_told (Input c true) = refl
 undo_told (Input c false) = refl
-undo_told (Team c n (Number m)) = refl
-undo_told (Team c n NoTeam) = refl
+undo_told (Team c n (Some m)) = refl
+undo_told (Team c n None) = refl
 undo_told Nothing = refl
 
 pub ten_numbers : (u : Undo) → length (numbers_of u) ≡ 10

@@ -1,12 +1,10 @@
 -- The reel: the last 512 events with what stepping back needs. docs/FORMAT.md, "The reel".
-use Rattle.std.specs.Prelude.{ℕ, zero, suc, ◌+◌, min, Bool, true, false, cond, ◌&&◌, List, [], ◌∷◌, get_or, ltb, leb, ℤ, pos, negsuc}
+use Rattle.std.specs.Prelude.{ℕ, zero, suc, ◌+◌, min, Bool, true, false, cond, ◌&&◌, List, [], ◌∷◌, get_or, ltb, leb, ℤ, pos, negsuc, Option, Some, None}
 use Rattle.refusal.specs.declared.Refusal.TheVariants.{BadState}
 use Rattle.fields.specs.Views.{zeros}
 use Rattle.state.specs.State.{same_int, ten_of, put_ten}
 use Rattle.state.specs.Reading.{Event}
 use Rattle.teams.specs.Teams.{mark_for, number_for}
-use Rattle.teams.specs.declared.Team as teams
-use Rattle.teams.specs.declared.Team.TheVariants.{Number, NoTeam}
 use Rattle.back.specs.Undo.{undo_of}
 use Rattle.back.specs.declared.Undo.{Undo}
 use Rattle.back.specs.declared.Undo.TheVariants.{Start, End, New, Change, Old, Input, Team, Nothing}
@@ -67,7 +65,7 @@ abbrev pub input_row : ℤ → ℤ → Undo
 input_row c had = cond (is_number 1 had) (Input c true) (cond (is_number 0 had) (Input c false) no_event)
 
 abbrev pub team_row : ℤ → ℤ → ℤ → ℤ → Undo
-team_row c n mark number = cond (is_number 1 mark) (Team c n (Number number)) (cond (is_number 0 mark) (Team c n NoTeam) no_event)
+team_row c n mark number = cond (is_number 1 mark) (Team c n (Some number)) (cond (is_number 0 mark) (Team c n None) no_event)
 
 -- what ten numbers tell, whoever wrote them: those that an event doesn't have are not looked at
 unfoldable pub undo_in : List ℤ → Undo
@@ -137,11 +135,11 @@ keep_row l u ten former =
     (of_input u (put_ten l.formers p former) l.formers)
 
 -- an event in the next place; m is the former team beside a PlayerTeam
-abbrev pub keep : Reel → Event → List ℤ → List ℤ → teams.Team → Reel
+abbrev pub keep : Reel → Event → List ℤ → List ℤ → Option ℤ → Reel
 keep l e ten former m = keep_row l (undo_of e m) ten former
 
 -- what a call hands back: a bad reel is refused 17, and nothing changes
-unfoldable pub keeping : Reel → Event → List ℤ → List ℤ → teams.Team → KeptReel
+unfoldable pub keeping : Reel → Event → List ℤ → List ℤ → Option ℤ → KeptReel
 keeping l e ten former m =
     cond (good_reel l) (record { answer = answers.Kept; reel = keep l e ten former m })
     (record { answer = answers.Refused BadState; reel = l })

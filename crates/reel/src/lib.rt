@@ -6,7 +6,6 @@ ghost use Rattle.reel.specs.Reel.{input_row, team_row, undo_in, place_before, pl
 
 use back::Undo;
 use refusal::Refusal;
-use teams::Team;
 
 // The place of the next row, below 512, and how many rows are kept, at most 512.
 #[derive(Clone, Copy)]
@@ -108,14 +107,14 @@ fn team_row(cid: i32, team: i32, mark: i32, number: i32) -> Undo
         return Undo::Team {
             cid,
             team,
-            former: Team::Number(number),
+            former: Some(number),
         };
     }
     if mark == 0 {
         return Undo::Team {
             cid,
             team,
-            former: Team::NoTeam,
+            former: None,
         };
     }
     Undo::End(-1)

@@ -20,14 +20,13 @@ mod under_way;
 use back::{TeamBoard, Undo};
 use item::Item;
 use kinds::Version;
-use lookups::{InputOf, Pos};
+use lookups::Pos;
 use many::Stop;
 use reel::{Counts, KeepAnswer, KeptReel, Reel};
 use rewinding::{RewindAnswer, Rewound};
 use state::Event;
-use teams::{Team, TeamReader};
+use teams::TeamReader;
 use texts::Text;
-use varint::Wrote;
 
 const STDOUT_FILENO: i32 = 1;
 
@@ -161,11 +160,11 @@ fn event_in(s: &[u8]) -> Event {
 }
 
 // The former team beside it.
-fn team_in(s: &[u8]) -> Team {
+fn team_in(s: &[u8]) -> Option<i32> {
     if (7 <= cases::byte(s, 0)) & (cases::number(s, 3) == 1) {
-        return Team::Number(cases::number(s, 4));
+        return Some(cases::number(s, 4));
     }
-    Team::NoTeam
+    None
 }
 
 fn ten_with(k: usize, n: i32) -> [i32; 10] {
@@ -222,23 +221,22 @@ fn print_reel(given: Reel, p: usize) {
 
 fn print_rewound(rewound: Rewound) {
     let mut text = [0u8; 27036];
-    let Wrote::Past(n) = board_lines::write_rewound(rewound, &mut text, 0) else {
+    let Ok(n) = board_lines::write_rewound(rewound, &mut text, 0) else {
         return;
     };
     say(cases::window(&text, 0, n));
 }
 
 // What lookups found.
-fn print_found(pos: Pos, looked: InputOf, team: Team) {
+fn print_found(pos: Option<Pos>, looked: Option<[i32; 10]>, team: Option<i32>) {
     match pos {
-        Pos::At { x, y } => print(texts::plain(b"at", &[x, y])),
-        Pos::NoPos => say(b"nowhere\n"),
+        Some(Pos { x, y }) => print(texts::plain(b"at", &[x, y])),
+        None => say(b"nowhere\n"),
     }
-    let ten = looked.input;
-    if looked.there {
+    if let Some(ten) = looked {
         print_ten(b"has", ten);
     }
-    if let Team::Number(n) = team {
+    if let Some(n) = team {
         print(texts::plain(b"joined", &[n]));
     }
 }
@@ -330,7 +328,7 @@ fn keep_lent(
     event: Event,
     input: [i32; 10],
     former: [i32; 10],
-    team: Team,
+    team: Option<i32>,
 ) -> KeptReel {
     let counts = given.counts;
     let mut rows = given.rows;
@@ -390,8 +388,8 @@ fn print_stop(stop: Stop) {
     }
 }
 
-fn print_team(cid: i32, team: Team) {
-    if let Team::Number(n) = team {
+fn print_team(cid: i32, team: Option<i32>) {
+    if let Some(n) = team {
         print(texts::plain(b"team", &[cid, n]));
     }
 }

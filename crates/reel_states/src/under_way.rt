@@ -3,13 +3,12 @@ use crate::{
     blank, filled, number_of, place_in, print, print_found, reel_in, same_arrays, same_reel, say,
     say_if, say_two,
 };
-use back::{Board, BoardTick, TeamBoard};
+use back::{Board, TeamBoard};
 use going::{Go, GoAnswer, LentGo, Progress, Rewind, Start, StartAnswer};
 use reel::Reel;
 use rewinding::Rewound;
 use state::Entries;
 use teams::TeamReader;
-use varint::Wrote;
 
 const STDOUT_FILENO: i32 = 1;
 
@@ -22,7 +21,7 @@ fn say_number(word: &[u8], n: usize) {
 
 fn print_gone(answer: GoAnswer, board: TeamBoard) {
     let mut text = [0u8; 27036];
-    let Wrote::Past(n) = board_lines::write_gone(answer, board, &mut text, 0) else {
+    let Ok(n) = board_lines::write_gone(answer, board, &mut text, 0) else {
         return;
     };
     say(cases::window(&text, 0, n));
@@ -47,8 +46,8 @@ fn print_looked(rewind: Rewind, cid: i32) {
         rewinds::team(rewind, cid),
     );
     match rewinds::tick(rewind) {
-        BoardTick::In(t) => print(texts::plain(b"in", &[t])),
-        BoardTick::NoTick => say(b"in no tick\n"),
+        Some(t) => print(texts::plain(b"in", &[t])),
+        None => say(b"in no tick\n"),
     }
 }
 

@@ -1,4 +1,5 @@
 -- A run and a reel beside it: what is done and what is left. Assumes nothing.
+use Rattle.std.specs.Prelude.{Option}
 use Prim.Native.Nat.{ℕ, suc, ◌+◌}
 use mathlib.Core.Path.{◌≡◌, refl, sym, ap, ◌∙◌}
 use mathlib.Core.Bool.{Bool}
@@ -19,7 +20,6 @@ use Rattle.state.specs.declared.Event as code
 use Rattle.state.specs.declared.Answer.TheVariants as answers
 use Rattle.state.specs.declared.Outcome.{Outcome}
 use Rattle.teams.specs.Teams.{teams_after, former_team, team_reader}
-use Rattle.teams.specs.declared.Team.{Team}
 use Rattle.teams.proofs.Joins.{slim_teams, slim_former}
 use Rattle.calls.specs.Calls.{Seen}
 use Rattle.calls.specs.Along.{Halt, Run, stopped, before, calls}
@@ -85,7 +85,7 @@ module _ (s : Scalars) (m : Memory) (w : List ℕ) (last : Bool) (sound : Sound 
     seen = one.seen s m w last sound o m' e v n a
 
     -- the event as the code has it, with the lent numbers
-    keeps_it : (l : Reel) (team : Team) → keep l (event_is v) m'.input m'.former team ≡ keep l seen.event seen.ten seen.former team
+    keeps_it : (l : Reel) (team : Option ℤ) → keep l (event_is v) m'.input m'.former team ≡ keep l seen.event seen.ten seen.former team
     keeps_it l team =
         let t = read_call (reader_of s m) w last in
         ap (λ (d : Event). keep l d m'.input m'.former team) (sym given.own)
@@ -100,7 +100,7 @@ module _ (s : Scalars) (m : Memory) (w : List ℕ) (last : Bool) (sound : Sound 
     teams_are : (t : List ℤ) → teams_after (event_is v) t ≡ teams_after seen.event t
     teams_are t = ap (λ (d : Event). teams_after d t) (sym given.own) ∙ slim_teams given.event t
 
-    pub goes_on : {run : Run} {t₀ : List ℤ} {l₀ : Reel} {t : List ℤ} {l : Reel} {count used : ℕ} (k : ℕ) (team : Team) (t₁ : List ℤ) (l₁ : Reel)
+    pub goes_on : {run : Run} {t₀ : List ℤ} {l₀ : Reel} {t : List ℤ} {l : Reel} {count used : ℕ} (k : ℕ) (team : Option ℤ) (t₁ : List ℤ) (l₁ : Reel)
         → team ≡ former_team (event_is v) t → t₁ ≡ teams_after (event_is v) t → l₁ ≡ keep l (event_is v) m'.input m'.former team
         → Behind run (calls (suc k) (reader_of s m) w last) t₀ l₀ t l count used
         → Behind run (calls k (reader_of o.scalars m') (drop n w) last) t₀ l₀ t₁ l₁ (count + 1) (used + n)

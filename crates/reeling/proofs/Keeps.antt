@@ -1,5 +1,6 @@
 -- What a reel keeps of the event that a call gives: neither a command's arguments nor what stood in the memory before the call. Assumes
 -- nothing.
+use Rattle.std.specs.Prelude.{Option}
 use Prim.Native.Nat.{ℕ, ◌+◌, ◌<◌, min}
 use mathlib.Core.Path.{◌≡◌, refl, sym, ap, ◌∙◌}
 use mathlib.Core.Bool.{Bool, true, false, cond, ◌&&◌}
@@ -22,7 +23,6 @@ use Rattle.state.proofs.Acts.{acts}
 use Rattle.state.proofs.Every.{by_cond}
 use Rattle.state.proofs.Numbers.{picks_first}
 use Rattle.teams.specs.Teams.{Joining, joins, nobody, joining_in}
-use Rattle.teams.specs.declared.Team.{Team}
 use Rattle.teams.proofs.Joins.{joining_own}
 use Rattle.rests.proofs.Slim.{slim_same}
 use Rattle.back.specs.Undo.{undo_joining}
@@ -32,31 +32,31 @@ use Rattle.reel.specs.declared.KeptReel.{KeptReel}
 use Rattle.reel.specs.declared.Reel.{Reel}
 use Rattle.many.proofs.OneCall.{reader_of}
 
-pub slim_keep : (l : Reel) (e : Event) (ten former : List ℤ) (team : Team) → keep l (slim e) ten former team ≡ keep l e ten former team
+pub slim_keep : (l : Reel) (e : Event) (ten former : List ℤ) (team : Option ℤ) → keep l (slim e) ten former team ≡ keep l e ten former team
 slim_keep l e ten former team =
     slim_same (λ (d : Event). keep l d ten former team) (λ r. ap (λ (j : Joining). keep_row l (undo_joining j team) ten former) (joining_own r)) e
 
 -- of a record that is no input no ten numbers are kept
-record_alike : (l : Reel) (j : Joining) (team : Team) (a b x y : List ℤ) → keep_row l (undo_joining j team) a b ≡ keep_row l (undo_joining j team) x y
+record_alike : (l : Reel) (j : Joining) (team : Option ℤ) (a b x y : List ℤ) → keep_row l (undo_joining j team) a b ≡ keep_row l (undo_joining j team) x y
 unfolding keep_row
 record_alike l (joins c n) team a b x y = refl
 record_alike l nobody team a b x y = refl
 
 -- the reel after what a call says, with this former team
-abbrev pub keep_said : Reel → Team → Said Event → Memory → Reel
+abbrev pub keep_said : Reel → Option ℤ → Said Event → Memory → Reel
 keep_said l team (gives e n) m = keep l e m.input m.former team
 keep_said l team more m = l
 keep_said l team (finish n) m = l
 keep_said l team (refuses k vs) m = l
 
-abbrev keep_step : Reel → Team → Step → Reel
+abbrev keep_step : Reel → Option ℤ → Step → Reel
 keep_step l team t = keep_said l team t.said t.memory
 
 -- calls that a reel keeps alike
-record AsKept (l : Reel) (team : Team) (t u : Step) : Type 0 where
+record AsKept (l : Reel) (team : Option ℤ) (t u : Step) : Type 0 where
   same : keep_step l team t ≡ keep_step l team u
 
-module _ {l : Reel} {team : Team} where
+module _ {l : Reel} {team : Option ℤ} where
   by_both : (b : Bool) {x y p q : Step} → AsKept l team x p → AsKept l team y q → AsKept l team (cond b x y) (cond b p q)
   by_both true f g = f
   by_both false f g = g
@@ -87,7 +87,7 @@ module _ {l : Reel} {team : Team} where
   good_keeps s m w last =
       by_both (is_closed s.standing) (record { same = refl }) (act_keeps (acts s m.entries w last) m (memory_of m.entries))
 
-pub call_keeps : (l : Reel) (team : Team) (s : Scalars) (m : Memory) (w : List ℕ) (last : Bool) → Sound (reader_of s m)
+pub call_keeps : (l : Reel) (team : Option ℤ) (s : Scalars) (m : Memory) (w : List ℕ) (last : Bool) → Sound (reader_of s m)
     → keep_step l team (good_call s m w last) ≡ keep_step l team (read_call (reader_of s m) w last)
 unfolding read_call
 call_keeps l team s m w last sound =
@@ -104,7 +104,7 @@ more_is_good k =
     let b : leb (min (k.count + 1) 512) 512 ≡ true = le-leb (min (k.count + 1) 512) 512 (omega arith) in
     ap (λ (x : Bool). x && leb (min (k.count + 1) 512) 512) a ∙ b
 
-module _ (l : Reel) (e : Event) (ten former : List ℤ) (team : Team) where
+module _ (l : Reel) (e : Event) (ten former : List ℤ) (team : Option ℤ) where
   pub kept : (a : KeptReel) → good_reel l ≡ true → a ≡ keeping l e ten former team → a.reel ≡ keep l e ten former team
   unfolding keeping
   kept a good h = ap (λ (x : KeptReel). x.reel) (h ∙ sym (picks_first (good_reel l) _ _ good))

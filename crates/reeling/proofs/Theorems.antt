@@ -1,4 +1,5 @@
 -- The statements of specs/Laws.antt. Assumes nothing.
+use Rattle.std.specs.Prelude.{Option}
 use Prim.Native.Nat.{ℕ, zero, suc, ◌≤◌}
 use mathlib.Core.Path.{◌≡◌, refl, sym, subst, ap, ◌∙◌}
 use mathlib.Core.List.{List, [], ◌∷◌, ◌++◌, map, append_assoc, append-nil, reverse, reverse-append}
@@ -13,7 +14,6 @@ use Rattle.state.specs.Reading.{Event, Step, is_closed, reader_after}
 use Rattle.state.specs.declared.Reader.{Reader}
 use Rattle.state.proofs.Every.{by_cond, right_of}
 use Rattle.teams.specs.Teams.{good_teams, teams_after, former_team, good_team_reader}
-use Rattle.teams.specs.declared.Team.{Team}
 use Rattle.teams.specs.declared.TeamReader.{TeamReader}
 use Rattle.calls.specs.Calls.{Call, call, Seen, is_pending, seen_by, seen_in}
 use Rattle.calls.specs.Along.{Halt, stopped, before, on_said, along, all_of}
@@ -131,7 +131,7 @@ keep_append l [] ys = refl
 keep_append l (x ∷ xs) ys = keep_append (keep l x.seen.event x.seen.ten x.seen.former x.team) xs ys
 
 -- one event or none
-one_turned : (team : Team) (a : Said Event) (by : Event → ℕ → Seen) → reverse (map (team_seen team) (seen_in a by)) ≡ map (team_seen team) (seen_in a by)
+one_turned : (team : Option ℤ) (a : Said Event) (by : Event → ℕ → Seen) → reverse (map (team_seen team) (seen_in a by)) ≡ map (team_seen team) (seen_in a by)
 one_turned team (gives e n) by = refl
 one_turned team more by = refl
 one_turned team (finish n) by = refl

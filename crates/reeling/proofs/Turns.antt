@@ -1,4 +1,5 @@
 -- The loop over the calls: its invariant, one turn, each way to stop. Assumes nothing.
+use Rattle.std.specs.Prelude.{Option}
 use Prim.Native.Nat.{ℕ, suc, ◌+◌, ◌-◌, ◌≤◌, ◌<◌}
 use mathlib.Core.Path.{◌≡◌, refl}
 use mathlib.Core.Bool.{Bool, true}
@@ -19,7 +20,6 @@ use Rattle.state.specs.declared.Event as code
 use Rattle.state.specs.declared.Answer.TheVariants as answers
 use Rattle.state.specs.declared.Outcome.{Outcome}
 use Rattle.teams.specs.Teams.{teams_after, former_team, team_reader}
-use Rattle.teams.specs.declared.Team.{Team}
 use Rattle.calls.specs.Along.{Run, along, calls}
 use Rattle.reel.specs.Reel.{good_reel, keeping}
 use Rattle.reel.specs.declared.KeptReel.{KeptReel}
@@ -78,7 +78,7 @@ module _ {run : Run} {most : ℕ} {w : List ℕ} {last : Bool} {t₀ : List ℤ}
         pub fits : used + used_in (said_is o.answer) ≤ length w
         fits = omega (arith, uses s m (drop used w) last g.sound o m' call, length-drop used w, g.within)
 
-        pub turn : (v : code.Event) (n : ℕ) (team : Team) (t₁ : List ℤ) (k : KeptReel) → o.answer ≡ answers.Event v n
+        pub turn : (v : code.Event) (n : ℕ) (team : Option ℤ) (t₁ : List ℤ) (k : KeptReel) → o.answer ≡ answers.Event v n
             → (team ≡ former_team (event_is v) t) × (t₁ ≡ teams_after (event_is v) t)
             → k ≡ keeping l (event_is v) m'.input m'.former team
             → Going run most w last t₀ l₀ o.scalars m' t₁ k.reel (count + 1) (used + n)

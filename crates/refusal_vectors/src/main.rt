@@ -5,7 +5,7 @@
 //   2: a part of four bytes: its place and its length, where 255 stands for 18446744073709551615
 #![tactic(auto)]
 
-use kinds::{MagicRead, Version, VersionOf};
+use kinds::Version;
 use packer::Part;
 use refusal::Refusal;
 
@@ -23,12 +23,12 @@ fn say_refused(why: Refusal) {
 
 fn magic(s: &[u8]) {
     match ids::read_magic(s) {
-        MagicRead::Used(n) => {
+        Ok(n) => {
             if n == 16 {
                 say(b" 16 used\n");
             }
         }
-        MagicRead::Refused(r) => say_refused(r),
+        Err(r) => say_refused(r),
     }
 }
 
@@ -45,8 +45,8 @@ fn say_version(version: Version) {
 
 fn version(s: &[u8]) {
     match kinds::version_of(num::wrapping_add(cases::number(s, 0), times_256(cases::byte(s, 1)))) {
-        VersionOf::Is(v) => say_version(v),
-        VersionOf::Refused(r) => say_refused(r),
+        Ok(v) => say_version(v),
+        Err(r) => say_refused(r),
     }
 }
 

@@ -5,14 +5,13 @@
 ghost use Rattle.std.specs.Prelude.{◌≡◌, ◌<◌, length};
 
 use feed::Hand;
-use kinds::{Version, VersionOf};
+use kinds::Version;
 use lines::Ending;
 use packer::Part;
 use refusal::Refusal;
 use replayer::Turned;
 use std::io::Read;
 use teams::TeamReader;
-use varint::Wrote;
 
 const STDOUT_FILENO: i32 = 1;
 
@@ -143,7 +142,7 @@ fn replay(
 
 fn refuse(refusal: Refusal) {
     let mut line = [0u8; 138];
-    let Wrote::Past(n) = lines::write_last(Ending::Refused(refusal), &mut line, 0) else {
+    let Ok(n) = lines::write_last(Ending::Refused(refusal), &mut line, 0) else {
         return;
     };
     print(&line, n);
@@ -171,8 +170,8 @@ fn no_turn(hand: Hand) -> Left {
 // The version byte.
 fn behind_version(number: i32, hand: Hand) -> Left {
     match kinds::version_of(number) {
-        VersionOf::Is(version) => first_left(version, hand, true),
-        VersionOf::Refused(r) => {
+        Ok(version) => first_left(version, hand, true),
+        Err(r) => {
             refuse(r);
             no_turn(hand)
         }

@@ -3,7 +3,7 @@
 #![tactic(auto)]
 
 use feed::Hand;
-use kinds::{Version, VersionOf};
+use kinds::Version;
 use refusal::Refusal;
 use teams::TeamReader;
 
@@ -86,8 +86,8 @@ fn run_body(version: Version, body: &[u8]) {
 
 fn run_case(input: &[u8]) {
     match kinds::version_of(cases::first(input)) {
-        VersionOf::Is(version) => run_body(version, cases::window(input, 1, input.len())),
-        VersionOf::Refused(r) => refuse(r),
+        Ok(version) => run_body(version, cases::window(input, 1, input.len())),
+        Err(r) => refuse(r),
     }
 }
 

@@ -1,4 +1,5 @@
 -- Records that change no entry: their client stands among the values that the record itself has. Assumes nothing.
+use Rattle.std.specs.Prelude.{Option, Some, None}
 use Prim.Native.Nat.{ℕ, suc}
 use mathlib.Core.Path.{◌≡◌, refl, sym, ap, ◌∙◌}
 use mathlib.Core.Bool.{Bool, true, false, cond}
@@ -22,8 +23,6 @@ use Rattle.kinds.specs.declared.Kind.{Kind}
 use Rattle.kinds.specs.declared.Kind.TheVariants as kinds
 use Rattle.item.specs.declared.Tag.{Tag}
 use Rattle.item.specs.declared.Tag.TheVariants.{Plain, Named, Other}
-use Rattle.kinds.specs.declared.Cid.{Cid}
-use Rattle.kinds.specs.declared.Cid.TheVariants.{Of, NoCid}
 use Rattle.records.specs.steps.Views.{own, item_is}
 use Rattle.item.specs.Own.{own_content}
 use Rattle.records.specs.declared.ItemRead.{ItemRead}
@@ -101,17 +100,17 @@ cid_kind kinds.Finish vs = refl
 cid_kind kinds.TickSkip vs = refl
 cid_kind (kinds.PlayerNew c) vs = refl
 cid_kind (kinds.PlayerOld c) vs = refl
-cid_kind kinds.InputDiff vs = ap Of (first_more 0 vs)
-cid_kind kinds.InputNew vs = ap Of (first_more 0 vs)
-cid_kind kinds.Message vs = ap Of (first_more 1 vs)
-cid_kind kinds.Join vs = ap Of (first_more 0 vs)
-cid_kind kinds.Drop vs = ap Of (first_more 1 vs)
-cid_kind kinds.ConsoleCommand vs = ap Of (first_more 2 vs)
+cid_kind kinds.InputDiff vs = ap Some (first_more 0 vs)
+cid_kind kinds.InputNew vs = ap Some (first_more 0 vs)
+cid_kind kinds.Message vs = ap Some (first_more 1 vs)
+cid_kind kinds.Join vs = ap Some (first_more 0 vs)
+cid_kind kinds.Drop vs = ap Some (first_more 1 vs)
+cid_kind kinds.ConsoleCommand vs = ap Some (first_more 2 vs)
 cid_kind kinds.Ex vs = refl
 
 cid_tag : (t : Tag) (vs : List (Value Part)) → tag_cid t (first_number (take (length (own_fields t)) vs)) ≡ tag_cid t (first_number vs)
 cid_tag (Plain k) vs = cid_kind k vs
-cid_tag (Named k) vs = ap (λ (z : ℤ). cond (has_client k) (Of z) NoCid) (first_named k vs)
+cid_tag (Named k) vs = ap (λ (z : ℤ). cond (has_client k) (Some z) None) (first_named k vs)
 cid_tag Other vs = refl
 
 -- a record has its client also without what stands beside it
@@ -132,7 +131,7 @@ module _ (s : Scalars) (m : Memory) where
       → step_of (gives (other (own_content c)) n) (raising (cid_of (own_content c)) s) m ≡ slim_step (apply s m c n)
   unfolding apply
   apply_other c n o =
-      ap (λ (i : Cid). step_of (gives (other (own_content c)) n) (raising i s) m) (cid_own c)
+      ap (λ (i : Option ℤ). step_of (gives (other (own_content c)) n) (raising i s) m) (cid_own c)
       ∙ ap slim_step (sym (apply_sort_law (tag_sort c.tag) c (numbers c.values) n o))
 
   module _ (last : Bool) where

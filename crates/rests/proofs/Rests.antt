@@ -1,4 +1,5 @@
 -- The rest of a record and what it changes, from what the code has read. Assumes nothing.
+use Rattle.std.specs.Prelude.{Option, Some}
 use Prim.Native.Nat.{ℕ}
 use mathlib.Core.Path.{◌≡◌, refl, sym, ap, ◌∙◌}
 use mathlib.Core.Bool.{Bool, true, false}
@@ -26,7 +27,6 @@ use Rattle.item.specs.Said.{finish}
 use Rattle.item.specs.Records.{as_content, read_rest}
 use Rattle.kinds.specs.declared.Kind.TheVariants as kinds
 use Rattle.item.specs.declared.Tag.TheVariants.{Plain}
-use Rattle.kinds.specs.declared.Cid.TheVariants.{Of}
 use Rattle.kinds.specs.steps.Kinds.{input_kind}
 use Rattle.records.proofs.Inputs.{Numbers, all_numbers}
 use Rattle.state.specs.State.{Memory}
@@ -88,7 +88,7 @@ module _ (s : Scalars) (m : Memory) (last : Bool) (w : List ℕ) (at : ℕ) wher
   pub skip_out : read_int w at ≡ ints.RunsOut → out_of last s m ≡ slim_step (with_rest s m last (read_rest kinds.TickSkip w at))
   skip_out e = sym (slim_calm _ (calm_out last s m)) ∙ ap skip_of (sym e) ∙ skip_rest
 
-  module _ (k next : ℕ) (remark : Remark) where
+  module _ (k next : ℕ) (remark : Option Remark) where
     pub skip_negative : read_int w at ≡ ints.Got (negsuc k) next remark
         → refusal_step NegativeDt s m ≡ slim_step (with_rest s m last (read_rest kinds.TickSkip w at))
     skip_negative e = sym (slim_calm _ (calm_refusal NegativeDt s m)) ∙ ap skip_of (sym e) ∙ skip_rest
@@ -101,8 +101,8 @@ module _ (s : Scalars) (m : Memory) (last : Bool) (w : List ℕ) (at : ℕ) wher
   -- ---- inputs
 
   abbrev pub input_step : Bool → ℤ → List ℤ → ℕ → Step
-  input_step true cid ns n = input_new (raising (Of cid) s) m cid ns n
-  input_step false cid ns n = input_diff (raising (Of cid) s) m cid ns n
+  input_step true cid ns n = input_new (raising (Some cid) s) m cid ns n
+  input_step false cid ns n = input_diff (raising (Some cid) s) m cid ns n
 
   abbrev input_after : Bool → InputAnswer → List ℤ → Step
   input_after new (inputs.Got cid n) ns = input_step new cid ns n
@@ -113,8 +113,8 @@ module _ (s : Scalars) (m : Memory) (last : Bool) (w : List ℕ) (at : ℕ) wher
 
   input_step_law : (new : Bool) (x : Reading (List (Value Part))) → Numbers 11 x → input_after new (input_read x).answer (input_read x).input ≡ input_of new x
   unfolding apply
-  input_step_law true (got vs n) h = sym (slim_calm _ (calm_input_new (raising (Of (first (numbers vs))) s) m (first (numbers vs)) (drop 1 (numbers vs)) n))
-  input_step_law false (got vs n) h = sym (slim_calm _ (calm_input_diff (raising (Of (first (numbers vs))) s) m (first (numbers vs)) (drop 1 (numbers vs)) n))
+  input_step_law true (got vs n) h = sym (slim_calm _ (calm_input_new (raising (Some (first (numbers vs))) s) m (first (numbers vs)) (drop 1 (numbers vs)) n))
+  input_step_law false (got vs n) h = sym (slim_calm _ (calm_input_diff (raising (Some (first (numbers vs))) s) m (first (numbers vs)) (drop 1 (numbers vs)) n))
   input_step_law new runs_out h = sym (slim_calm _ (calm_out last s m))
   input_step_law new (refused r) h = absurd h
 

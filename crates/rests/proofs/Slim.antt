@@ -1,4 +1,5 @@
 -- Nothing but the event of a record that changes no entry has arguments beside it that `slim_step` leaves out. Assumes nothing.
+use Rattle.std.specs.Prelude.{Option, Some, None}
 use Prim.Native.Nat.{ℕ}
 use mathlib.Core.Path.{◌≡◌, refl, ap}
 use mathlib.Core.Bool.{Bool, true, false}
@@ -16,8 +17,6 @@ use Rattle.state.specs.Reading.{Event, tick_start, tick_end, player_new, player_
 use Rattle.state.specs.Slim.{slim, slim_said, slim_step}
 use Rattle.state.specs.steps.Parts.{skipped}
 use Rattle.state.specs.declared.Scalars.{Scalars}
-use Rattle.state.specs.declared.Next.{Next}
-use Rattle.state.specs.declared.Next.TheVariants.{Tick, Past}
 use Rattle.state.proofs.Every.{by_cond}
 
 -- ---- the event of a record that is no player's and no input's
@@ -107,9 +106,9 @@ module _ (s : Scalars) (m : Memory) where
   calm_input_new (pos c) ns n = by_cond Calm (ltb c 128) (λ _. refl) (λ _. calm_refusal _ s m)
   calm_input_new (negsuc c) ns n = calm_refusal _ s m
 
-  calm_skipped : (n : ℕ) (x : Next) → Calm (skipped s m n x)
-  calm_skipped n (Tick t) = by_cond Calm s.inside (λ _. refl) (λ _. refl)
-  calm_skipped n Past = calm_refusal _ s m
+  calm_skipped : (n : ℕ) (x : Option ℤ) → Calm (skipped s m n x)
+  calm_skipped n (Some t) = by_cond Calm s.inside (λ _. refl) (λ _. refl)
+  calm_skipped n None = calm_refusal _ s m
 
   pub calm_skip : (dt n : ℕ) → Calm (tick_skip s m dt n)
   unfolding tick_skip

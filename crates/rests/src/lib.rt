@@ -15,7 +15,7 @@ ghost use Rattle.rests.specs.steps.Kinds.{pair_kind, is_other, input_of};
 ghost use Rattle.state.specs.Sorts.{sort_of};
 
 use fields::InputAnswer;
-use kinds::{Cid, Kind};
+use kinds::Kind;
 use records::ItemRead;
 use refusal::Refusal;
 use shapes::PairRead;
@@ -88,7 +88,7 @@ fn with_input(
     let InputAnswer::Got { cid, next } = answer else {
         return ticks::run_out(s, last);
     };
-    let t = ticks::raised(s, Cid::Of(cid));
+    let t = ticks::raised(s, Some(cid));
     if new {
         return inputs::input_new(t, held, inputs, input, former, cid, numbers, next);
     }
@@ -121,29 +121,23 @@ fn finished(s: Scalars, used: usize) -> Outcome
     }
 }
 
-// Whether a kind is that of an input, and of which.
-#[derive(Clone, Copy)]
-enum InputOf {
-    Input { new: bool },
-    NoInput,
-}
-
-fn input_of(kind: Kind) -> InputOf
+// Of the kind of an input, whether it is that of an InputNew.
+fn input_of(kind: Kind) -> Option<bool>
     ensures { result ≡ input_of (sort_of kind) }
 {
     match kind {
-        Kind::PlayerDiff(_) => InputOf::NoInput,
-        Kind::Finish => InputOf::NoInput,
-        Kind::TickSkip => InputOf::NoInput,
-        Kind::PlayerNew(_) => InputOf::NoInput,
-        Kind::PlayerOld(_) => InputOf::NoInput,
-        Kind::InputDiff => InputOf::Input { new: false },
-        Kind::InputNew => InputOf::Input { new: true },
-        Kind::Message => InputOf::NoInput,
-        Kind::Join => InputOf::NoInput,
-        Kind::Drop => InputOf::NoInput,
-        Kind::ConsoleCommand => InputOf::NoInput,
-        Kind::Ex => InputOf::NoInput,
+        Kind::PlayerDiff(_) => None,
+        Kind::Finish => None,
+        Kind::TickSkip => None,
+        Kind::PlayerNew(_) => None,
+        Kind::PlayerOld(_) => None,
+        Kind::InputDiff => Some(false),
+        Kind::InputNew => Some(true),
+        Kind::Message => None,
+        Kind::Join => None,
+        Kind::Drop => None,
+        Kind::ConsoleCommand => None,
+        Kind::Ex => None,
     }
 }
 
@@ -182,7 +176,7 @@ pub fn with_record(
         Kind::ConsoleCommand => {}
         Kind::Ex => {}
     }
-    let InputOf::Input { new } = input_of(kind) else {
+    let Some(new) = input_of(kind) else {
         return with_other(s, kind, w, at, last);
     };
     with_input(s, held, inputs, input, former, new, w, at, last)

@@ -1,6 +1,6 @@
 -- The lines of a results list. docs/FORMAT.md, "The ladder program".
-use Rattle.std.specs.Prelude.{ℕ, ◌≡◌, List, [], ◌∷◌, ◌++◌}
-use Rattle.varint.specs.declared.Wrote.{Wrote}
+use Rattle.std.specs.Prelude.{ℕ, ◌≡◌, List, [], ◌∷◌, ◌++◌, Result}
+use Rattle.refusal.specs.declared.Refusal.{Refusal}
 use Rattle.lines.specs.Lines.{decimal_digits, text, newline, plain_line, last_line, text_answer, text_target}
 use Rattle.lines.specs.declared.Ending.{Ending}
 use Rattle.results.specs.Results.{Finish, rows_below}
@@ -34,7 +34,7 @@ abbrev pub longest_list : ℕ
 longest_list = 5286
 
 -- the text of a list is in its place, the rows in the program's order of equal times; refused 9 where the longest text wouldn't fit
-pub record WritesList (l : Results) (ending : Ending) (out₀ : List ℕ) (at : ℕ) (r : Wrote) (out₁ : List ℕ) : Type 0 where
+pub record WritesList (l : Results) (ending : Ending) (out₀ : List ℕ) (at : ℕ) (r : Result ℕ Refusal) (out₁ : List ℕ) : Type 0 where
   pub ordered : List Finish
   pub order : InOrder (rows_below 128 l) ordered
   pub answer : r ≡ text_answer longest_list out₀ at (list_text ordered l.others ending)

@@ -11,7 +11,6 @@ ghost use Rattle.result_lines.specs.steps.Rows.{rows_in};
 use lines::Ending;
 use refusal::Refusal;
 use results::Results;
-use varint::Wrote;
 
 // The digits of n and the line's end. They are made from the last to the first.
 fn put_number(n: u64, out: &mut [u8], at: usize) -> usize
@@ -103,7 +102,12 @@ fn has_longest(len: usize, at: usize) -> bool
 
 // The text of a list: its rows in order, the number of others' finishes, the last line. Refused 9, with nothing changed, where the longest
 // text wouldn't fit.
-pub fn write_list(list: Results, ending: Ending, out: &mut [u8], at: usize) -> Wrote
+pub fn write_list(
+    list: Results,
+    ending: Ending,
+    out: &mut [u8],
+    at: usize,
+) -> Result<usize, Refusal>
     ensures { WritesList list ending out.old at result out.new }
 {
     let mut clients = [0i32; 128];
@@ -113,7 +117,7 @@ pub fn write_list(list: Results, ending: Ending, out: &mut [u8], at: usize) -> W
     // before the test of the room: the promise tells of an order also where nothing is written
     let count = ranking::rank(list, &mut clients, &mut times, &mut ticks);
     if has_longest(out.len(), at) {
-        return Wrote::Past(put_text(&clients, &times, &ticks, count, others, ending, out, at));
+        return Ok(put_text(&clients, &times, &ticks, count, others, ending, out, at));
     }
-    Wrote::Refused(Refusal::ShortTarget)
+    Err(Refusal::ShortTarget)
 }

@@ -1,4 +1,5 @@
 -- The finish that an event may be, into a list whose arrays are lent: by what becomes of the list. Assumes nothing.
+use Rattle.std.specs.Prelude.{Result, Ok, Err}
 use Prim.Native.Nat.{ℕ, ◌≤◌, ◌<◌}
 use mathlib.Core.Path.{◌≡◌, refl, sym, ap, ◌∙◌}
 use mathlib.Core.Bool.{Bool, true, false, cond}
@@ -8,15 +9,14 @@ use lib.IntN.{ℤ, pos, negsuc}
 use borrow.Author.Tests.{le-leb, le-ltb}
 use mir.Syntax.{w32}
 use mir.Val.{of_z}
+use Rattle.refusal.specs.declared.Refusal.{Refusal}
 use Rattle.refusal.specs.declared.Refusal.TheVariants.{BadState}
 use Rattle.results.specs.Results.{Finish, one_more, keep_at, keep, fits, Keeps}
 use Rattle.results.specs.declared.Results.{Results}
-use Rattle.results.specs.declared.Counted.{Counted}
-use Rattle.results.specs.declared.Counted.TheVariants.{Others, Refused}
 
 -- a list that takes the finishes of an event is r: what is said, and what is left
-abbrev pub said_of : Results → Counted
-said_of r = cond (fits r) (Others r.others) (Refused BadState)
+abbrev pub said_of : Results → Result ℕ Refusal
+said_of r = cond (fits r) (Ok r.others) (Err BadState)
 
 abbrev left_of : Results → Results → Results
 left_of l r = cond (fits r) r l
@@ -32,7 +32,7 @@ leaves l r fs e =
     }
 
 fitting : (l r : Results) (fs : List Finish) → r ≡ keep l fs → r.others < 18446744073709551616
-    → Keeps l fs (Others r.others) r.marks r.times r.ticks
+    → Keeps l fs (Ok r.others) r.marks r.times r.ticks
 fitting l r fs e h = rw (le-leb r.others 18446744073709551615 (omega arith)) at (leaves l r fs e)
 
 -- no finish
@@ -41,7 +41,7 @@ unfolding keep
 none l fs e = rw e
 
 pub keeps_none : (l : Results) (fs : List Finish) → fs ≡ [] → l.others < 18446744073709551616
-    → Keeps l fs (Others l.others) l.marks l.times l.ticks
+    → Keeps l fs (Ok l.others) l.marks l.times l.ticks
 keeps_none l fs e h = fitting l l fs (none l fs e) h
 
 -- one finish
@@ -51,7 +51,7 @@ one l fs f e = rw e
 
 -- of a client that is listed: the count stays
 pub keeps_row : (l r : Results) (fs : List Finish) (f : Finish) → fs ≡ f ∷ [] → r ≡ keep_at l f.client f → r.others < 18446744073709551616
-    → Keeps l fs (Others r.others) r.marks r.times r.ticks
+    → Keeps l fs (Ok r.others) r.marks r.times r.ticks
 keeps_row l r fs f e q h = fitting l r fs (q ∙ one l fs f e) h
 
 -- of another: b is its bits
@@ -64,7 +64,7 @@ alike : {A : Type 0} (g : Results → A) (l : Results) (b : Bool) → g (one_mor
 alike g l true e = sym e
 alike g l false e = refl
 
-pub keeps_count : (l : Results) (fs : List Finish) (f : Finish) (b : ℕ) (r : Counted) → fs ≡ f ∷ [] → b ≡ of_z w32 f.client → 128 ≤ b
+pub keeps_count : (l : Results) (fs : List Finish) (f : Finish) (b : ℕ) (r : Result ℕ Refusal) → fs ≡ f ∷ [] → b ≡ of_z w32 f.client → 128 ≤ b
     → r ≡ said_of (one_more l) → Keeps l fs r l.marks l.times l.ticks
 keeps_count l fs f b r e q h s =
     let k = leaves l (one_more l) fs (other l f.client f b q h ∙ one l fs f e) in

@@ -1,6 +1,7 @@
 -- A results list: of each client 0 to 127 its finish with the lowest time. docs/FORMAT.md, "The results list".
-use Rattle.std.specs.Prelude.{ℕ, zero, suc, ◌+◌, ◌≡◌, Bool, true, false, cond, List, [], ◌∷◌, ◌++◌, ltb, leb, eqb, get_or, set, replicate, ℤ, pos, negsuc}
+use Rattle.std.specs.Prelude.{ℕ, zero, suc, ◌+◌, ◌≡◌, Bool, true, false, cond, List, [], ◌∷◌, ◌++◌, ltb, leb, eqb, get_or, set, replicate, ℤ, pos, negsuc, Result, Ok, Err}
 use Rattle.std.specs.Int.Signed.{lt_z}
+use Rattle.refusal.specs.declared.Refusal.{Refusal}
 use Rattle.refusal.specs.declared.Refusal.TheVariants.{BadState}
 use Rattle.packer.specs.declared.Part.{Part}
 use Rattle.fields.specs.Fields.{num, on_num}
@@ -14,8 +15,6 @@ use Rattle.item.specs.Contents.{by_tag}
 use Rattle.state.specs.State.{same_int}
 use Rattle.state.specs.Reading.{Event, tick_start, tick_end, player_new, player_change, player_old, input, other}
 use Rattle.results.specs.declared.Results.{Results}
-use Rattle.results.specs.declared.Counted.{Counted}
-use Rattle.results.specs.declared.Counted.TheVariants.{Others, Refused}
 
 -- ---- finishes
 
@@ -143,8 +142,8 @@ abbrev pub kept : Results → List Finish → Results
 kept l fs = cond (fits (keep l fs)) (keep l fs) l
 
 -- finishes into a list whose arrays are lent
-pub record Keeps (l : Results) (fs : List Finish) (r : Counted) (marks₁ : List ℕ) (times₁ ticks₁ : List ℤ) : Type 0 where
-  pub said : r ≡ cond (fits (keep l fs)) (Others (keep l fs).others) (Refused BadState)
+pub record Keeps (l : Results) (fs : List Finish) (r : Result ℕ Refusal) (marks₁ : List ℕ) (times₁ ticks₁ : List ℤ) : Type 0 where
+  pub said : r ≡ cond (fits (keep l fs)) (Ok (keep l fs).others) (Err BadState)
   pub marks : marks₁ ≡ (kept l fs).marks
   pub times : times₁ ≡ (kept l fs).times
   pub ticks : ticks₁ ≡ (kept l fs).ticks

@@ -1,12 +1,11 @@
 // A results list: of each client 0 to 127 its finish with the lowest time.
 #![tactic(auto)]
 
-ghost use Rattle.std.specs.Prelude.{◌≡◌, ◌+◌, ◌<◌, cond, leb};
+ghost use Rattle.std.specs.Prelude.{◌≡◌, ◌+◌, ◌<◌, cond, leb, Ok, Err};
 ghost use Rattle.refusal.specs.declared.Refusal.TheVariants.{BadState};
 ghost use Rattle.item.specs.Contents.{item_of};
 ghost use Rattle.state.specs.Views.{event_is};
 ghost use Rattle.results.specs.Results.{is_player_finish, finish_of, results_with, no_results, Keeps};
-ghost use Rattle.results.specs.declared.Counted.TheVariants as counted;
 ghost use Rattle.results.specs.steps.Keeps.{FinishInRecord, FinishOfEvent, KeepsRow};
 
 use extensions::Extension;
@@ -36,18 +35,11 @@ impl Results {
     }
 }
 
-// Whether an event is a finish.
+// A finish of a client, whatever its tick.
 #[derive(Clone, Copy)]
-enum FinishOf {
-    Finish { cid: i32, time: i32 },
-    NoFinish,
-}
-
-// The count of other clients' finishes after an event; 17 if it can't rise.
-#[derive(Clone, Copy)]
-pub enum Counted {
-    Others(u64),
-    Refused(Refusal),
+struct PlayerFinish {
+    cid: i32,
+    time: i32,
 }
 
 fn is_player_finish(which: Extension) -> bool
@@ -78,7 +70,7 @@ fn is_player_finish(which: Extension) -> bool
 }
 
 // The finish that a record is, whatever tick is open.
-fn finish_in(item: Item) -> FinishOf
+fn finish_in(item: Item) -> Option<PlayerFinish>
     ensures { FinishInRecord (item_of item) result }
 {
     let t = item.take_apart();
@@ -86,28 +78,28 @@ fn finish_in(item: Item) -> FinishOf
     let cid = t.fields.first;
     let time = t.fields.second;
     match tag {
-        Tag::Plain(_) => FinishOf::NoFinish,
+        Tag::Plain(_) => None,
         Tag::Named(which) => {
             if is_player_finish(which) {
-                return FinishOf::Finish { cid, time };
+                return Some(PlayerFinish { cid, time });
             }
-            FinishOf::NoFinish
+            None
         }
-        Tag::Other => FinishOf::NoFinish,
+        Tag::Other => None,
     }
 }
 
 // The finish that an event is, whatever tick is open.
-fn finish_of(event: Event) -> FinishOf
+fn finish_of(event: Event) -> Option<PlayerFinish>
     ensures { FinishOfEvent (event_is event) result }
 {
     match event {
-        Event::TickStart(_) => FinishOf::NoFinish,
-        Event::TickEnd(_) => FinishOf::NoFinish,
-        Event::PlayerNew { .. } => FinishOf::NoFinish,
-        Event::PlayerChange { .. } => FinishOf::NoFinish,
-        Event::PlayerOld { .. } => FinishOf::NoFinish,
-        Event::Input { .. } => FinishOf::NoFinish,
+        Event::TickStart(_) => None,
+        Event::TickEnd(_) => None,
+        Event::PlayerNew { .. } => None,
+        Event::PlayerChange { .. } => None,
+        Event::PlayerOld { .. } => None,
+        Event::Input { .. } => None,
         Event::Record(item) => finish_in(item),
     }
 }
@@ -138,13 +130,13 @@ fn keep_row(
 }
 
 // Another client's finish.
-fn count_other(others: u64) -> Counted
-    ensures { result ≡ cond (leb (others + 1) 18446744073709551615) (counted.Others (others + 1)) (counted.Refused BadState) }
+fn count_other(others: u64) -> Result<u64, Refusal>
+    ensures { result ≡ cond (leb (others + 1) 18446744073709551615) (Ok (others + 1)) (Err BadState) }
 {
     if others == 18446744073709551615 {
-        return Counted::Refused(Refusal::BadState);
+        return Err(Refusal::BadState);
     }
-    Counted::Others(others + 1)
+    Ok(others + 1)
 }
 
 // Keeps the finish that an event may be in a list whose arrays are lent; tick is the one that is open at the event, the reader's.
@@ -155,16 +147,16 @@ pub fn keep_event(
     marks: &mut [u8; 128],
     times: &mut [i32; 128],
     ticks: &mut [i32; 128],
-) -> Counted
+) -> Result<u64, Refusal>
     ensures { Keeps (results_with marks.old times.old ticks.old others) (finish_of tick (event_is event)) result marks.new times.new ticks.new }
 {
-    let FinishOf::Finish { cid, time } = finish_of(event) else {
-        return Counted::Others(others);
+    let Some(PlayerFinish { cid, time }) = finish_of(event) else {
+        return Ok(others);
     };
     let bits = num::bits(cid);
     if bits < 128 {
         keep_row(bits as usize, time, tick, marks, times, ticks);
-        return Counted::Others(others);
+        return Ok(others);
     }
     count_other(others)
 }

@@ -8,9 +8,8 @@ ghost use Rattle.std.specs.Prelude.{◌≡◌, ◌<◌, length};
 use back::{Board, TeamBoard};
 use feed::Hand;
 use going::{GoAnswer, LentGo, LentStart, StartAnswer};
-use kinds::{Version, VersionOf};
+use kinds::Version;
 use lines::Ending;
-use number_args::Argument;
 use packer::Part;
 use reel::Counts;
 use refusal::Refusal;
@@ -19,7 +18,6 @@ use state::Entries;
 use std::env::{Env, FillError};
 use std::io::Read;
 use teams::TeamReader;
-use varint::Wrote;
 
 const STDOUT_FILENO: i32 = 1;
 
@@ -78,10 +76,10 @@ fn argument_count(rt: &impl Env) -> usize {
 }
 
 // One that is missing, or longer than a number needs to be, is bad.
-fn argument(rt: &impl Env, i: usize) -> Argument {
+fn argument(rt: &impl Env, i: usize) -> Option<i32> {
     let mut text = [0u8; 64];
     let Ok(n) = rt.arg(i, &mut text) else {
-        return Argument::Bad;
+        return None;
     };
     number_args::number_in(packer::show(&text, Part { at: 0, len: n }))
 }
@@ -106,13 +104,13 @@ fn with_events(rt: &impl Env, tick: i32, step: usize, count: usize) -> Wanted {
         };
     }
     match argument(rt, 3) {
-        Argument::Number(n) => Wanted {
+        Some(n) => Wanted {
             good: true,
             tick,
             step,
             most: num::bits(n) as usize,
         },
-        Argument::Bad => bad(),
+        None => bad(),
     }
 }
 
@@ -122,8 +120,8 @@ fn with_step(rt: &impl Env, tick: i32, count: usize) -> Wanted {
         return with_events(rt, tick, 0, count);
     }
     match argument(rt, 2) {
-        Argument::Number(n) => with_events(rt, tick, num::bits(n) as usize, count),
-        Argument::Bad => bad(),
+        Some(n) => with_events(rt, tick, num::bits(n) as usize, count),
+        None => bad(),
     }
 }
 
@@ -133,8 +131,8 @@ fn arguments(rt: &impl Env) -> Wanted {
         return bad();
     }
     match argument(rt, 1) {
-        Argument::Number(tick) => with_step(rt, tick, count),
-        Argument::Bad => bad(),
+        Some(tick) => with_step(rt, tick, count),
+        None => bad(),
     }
 }
 
@@ -186,7 +184,7 @@ fn less(a: usize, b: usize) -> usize {
 
 fn print_rewound(rewound: Rewound) {
     let mut text = [0u8; 27036];
-    let Wrote::Past(n) = board_lines::write_rewound(rewound, &mut text, 0) else {
+    let Ok(n) = board_lines::write_rewound(rewound, &mut text, 0) else {
         return;
     };
     print(&text, n);
@@ -216,7 +214,7 @@ fn print_gone(
         teams,
     };
     let mut text = [0u8; 27036];
-    let Wrote::Past(n) = board_lines::write_gone(answer, board, &mut text, 0) else {
+    let Ok(n) = board_lines::write_gone(answer, board, &mut text, 0) else {
         return false;
     };
     print(&text, n)
@@ -374,7 +372,7 @@ fn rewind(first: First, wanted: Wanted, input: &mut impl Read, buf: &mut [u8]) {
 
 fn refuse(refusal: Refusal) {
     let mut line = [0u8; 138];
-    let Wrote::Past(n) = lines::write_last(Ending::Refused(refusal), &mut line, 0) else {
+    let Ok(n) = lines::write_last(Ending::Refused(refusal), &mut line, 0) else {
         return;
     };
     print(&line, n);
@@ -401,8 +399,8 @@ fn none(refusal: Refusal, hand: Hand) -> First {
 // The version byte.
 fn behind_version(number: i32, hand: Hand) -> First {
     match kinds::version_of(number) {
-        VersionOf::Is(version) => first_of(version, hand, true),
-        VersionOf::Refused(refusal) => none(refusal, hand),
+        Ok(version) => first_of(version, hand, true),
+        Err(refusal) => none(refusal, hand),
     }
 }
 

@@ -1,4 +1,5 @@
 -- Rewinding beside a reader (specs/Laws.antt). Assumes nothing.
+use Rattle.std.specs.Prelude.{Option, Err}
 use Prim.Native.Nat.{ℕ, zero, suc, ◌+◌, ◌<◌}
 use mathlib.Core.Path.{◌≡◌, refl, sym, ap, ◌∙◌}
 use mathlib.Core.Bool.{Bool, true, false, cond, false≢true, ◌&&◌}
@@ -15,7 +16,6 @@ use Rattle.item.specs.Said.{Said, gives, more, finish, refuses}
 use Rattle.kinds.specs.declared.Version.{Version}
 use Rattle.state.specs.Reading.{Event}
 use Rattle.teams.specs.Teams.{good_team_reader, empty_team_reader}
-use Rattle.teams.specs.declared.Team.{Team}
 use Rattle.teams.specs.declared.TeamReader.{TeamReader}
 use Rattle.calls.specs.Calls.{Call, Seen, seen_in}
 use Rattle.team_calls.specs.Lists.{TeamSeen, team_seen, call_team, next_team, team_event_of, team_after, team_events}
@@ -29,7 +29,6 @@ use Rattle.reeling.specs.Reeling.{reel_after}
 use Rattle.reeling.specs.Laws.{row_of}
 use Rattle.reeling.proofs.Theorems.{map_append, reel_holds_last}
 use Rattle.rewinding.specs.Rewinding.{newer, gone, newer_than, step_over, closed_by_refusal, sought_of, sought_in, step_back_to, rewind_to}
-use Rattle.rewinding.specs.declared.Sought.TheVariants as soughts
 use Rattle.rewind_laws.specs.Laws.{Had, had, never, starts_in, or_else, had_after, if_among512, RewindsToTick}
 use Rattle.rewind_laws.proofs.Standing.{events_append, cut_sound, cut_quiet}
 use Rattle.rewind_laws.proofs.Walk.{within, newer_take, or_older, newer_append, over_back}
@@ -57,7 +56,7 @@ module _ (t : ℤ) where
         → Split r cs (had (team_board_of (team_after r upto)) (length (team_events (team_after r upto) behind)))
 
   -- of the event of a call, if it gives one
-  of_said : (x : Said Event) (m : Team) (by : Event → ℕ → Seen)
+  of_said : (x : Said Event) (m : Option ℤ) (by : Event → ℕ → Seen)
       → newer_than t (map row_of (map (team_seen m) (seen_in x by))) ≡ cond (starts_in t (map (team_seen m) (seen_in x by))) (newer 0) gone
   unfolding newer_than
   of_said (gives e n) m by = refl
@@ -156,7 +155,7 @@ module _ (v : Version) (before since : List Call) where
   answer t = cond (closed_by_refusal end.reader.scalars.standing) (refused Closed) (if_among512 (had_after t start since))
 
   by_standing : (t : ℤ) (b : Bool) → closed_by_refusal end.reader.scalars.standing ≡ b
-      → step_back_to (rows_of reel) (team_board_of end) (cond b (soughts.Refused Closed) (sought_of (newer_than t (rows_of reel))))
+      → step_back_to (rows_of reel) (team_board_of end) (cond b (Err Closed) (sought_of (newer_than t (rows_of reel))))
       ≡ cond b (refused Closed) (if_among512 (had_after t start since))
   by_standing t true q = refl
   by_standing t false q = rw (rows_are, newer_take t 512 rows) (among t (had_after t start since) (split t since start) q)

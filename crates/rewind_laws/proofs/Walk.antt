@@ -1,4 +1,5 @@
 -- Rows of events: the newest TickStart among them, stepping over them. Assumes nothing.
+use Rattle.std.specs.Prelude.{Option}
 use Prim.Native.Nat.{ℕ, zero, suc, ◌+◌}
 use mathlib.Core.Path.{◌≡◌, refl, sym, ap, ◌∙◌}
 use mathlib.Core.Bool.{Bool, true, false, cond, false≢true}
@@ -23,7 +24,6 @@ use Rattle.state.specs.Reading.{
   other,
 }
 use Rattle.teams.specs.Teams.{Joining, joins, nobody, joining_in}
-use Rattle.teams.specs.declared.Team.{Team}
 use Rattle.team_calls.specs.Lists.{TeamSeen}
 use Rattle.back.specs.TeamBoard.{TeamBack, was, refused, good_team_board, take_off_team, team_step_back}
 use Rattle.back.specs.Undo.{undo_of, undone, former_in}
@@ -91,14 +91,14 @@ newer_append t (x ∷ xs) ys = rw (newer_append t xs ys) (older_cons (is_start t
 -- ---- stepping over the rows of events is stepping back over the events
 
 -- of a record the ten numbers are not looked at
-record_back : (r : Content Part) (ten former : List ℤ) (m : Team) (b : TeamBoard) (j : Joining) → joining_in r ≡ j
+record_back : (r : Content Part) (ten former : List ℤ) (m : Option ℤ) (b : TeamBoard) (j : Joining) → joining_in r ≡ j
     → take_off_team (undone (undo_of (other r) m)) (of_input (undo_of (other r) m) ten []) (of_input (undo_of (other r) m) former []) (former_in (undo_of (other r) m)) b
     ≡ take_off_team (undone (undo_of (other r) m)) ten former (former_in (undo_of (other r) m)) b
 unfolding take_off_team
 record_back r ten former m b (joins c n) q = rw q
 record_back r ten former m b nobody q = rw q
 
-row_back : (e : Event) (ten former : List ℤ) (m : Team) (b : TeamBoard)
+row_back : (e : Event) (ten former : List ℤ) (m : Option ℤ) (b : TeamBoard)
     → take_off_team (undone (undo_of e m)) (of_input (undo_of e m) ten []) (of_input (undo_of e m) former []) (former_in (undo_of e m)) b
     ≡ take_off_team e ten former m b
 unfolding take_off_team
@@ -117,7 +117,7 @@ is_was (refused r) = false
 pub differ : {r : Refusal} {a : TeamBoard} → refused r ≡ was a → ⊥
 differ e = false≢true (ap is_was e)
 
-fitted : (b : TeamBoard) (e : Event) (ten former : List ℤ) (m : Team) (g : Bool) {a : TeamBoard}
+fitted : (b : TeamBoard) (e : Event) (ten former : List ℤ) (m : Option ℤ) (g : Bool) {a : TeamBoard}
     → cond g (take_off_team e ten former m b) (refused BadState) ≡ was a → take_off_team e ten former m b ≡ was a
 fitted b e ten former m true q = q
 fitted b e ten former m false q = absurd (differ q)

@@ -1,4 +1,5 @@
 -- Going on with a rewind that arrays hold. Assumes nothing.
+use Rattle.std.specs.Prelude.{Option}
 use Prim.Native.Nat.{ℕ}
 use mathlib.Core.Path.{◌≡◌, ap, ◌∙◌}
 use mathlib.Core.Bool.{Bool}
@@ -8,7 +9,6 @@ use lib.IntN.{ℤ, pos}
 use Rattle.state.specs.declared.Entries.{Entries}
 use Rattle.back.specs.Board.{board}
 use Rattle.back.specs.TeamBoard.{team_board}
-use Rattle.back.specs.declared.BoardTick.{BoardTick}
 use Rattle.reel.specs.Reel.{counts_of, reel_of}
 use Rattle.going.specs.Going.{progress_of, rewind_of, go_on}
 use Rattle.going.specs.declared.Go.{Go}
@@ -16,7 +16,7 @@ use Rattle.rewind_linked.specs.UnderWay.{tick_in, flag_in, three_with, two_with,
 
 module _ (t : ℤ) (rows inputs formers : List ℤ) (e : Entries) (m : List ℤ) (three₀ : List ℕ) (two₀ : List ℤ) (events : ℕ) where
   -- the numbers were read back; going on answered and left x
-  pub goes : (u : ℤ) → u ≡ t → (tick : BoardTick) → tick ≡ tick_in (get_or two₀ 0 (pos 0)) → (misfit : Bool) → misfit ≡ flag_in (get_or two₀ 1 (pos 0))
+  pub goes : (u : ℤ) → u ≡ t → (tick : Option ℤ) → tick ≡ tick_in (get_or two₀ 0 (pos 0)) → (misfit : Bool) → misfit ≡ flag_in (get_or two₀ 1 (pos 0))
       → (x : Go)
       → x ≡ go_on
       (rewind_of (team_board (board tick e) m) (reel_of (counts_of (get_or three₀ 0 0) (get_or three₀ 1 0)) rows inputs formers) (progress_of u (get_or three₀ 2 0) misfit))

@@ -1,4 +1,5 @@
 -- What a start hands out, by what seeking answers; a start after a body was read whole. Assumes nothing.
+use Rattle.std.specs.Prelude.{Ok, Err}
 use Prim.Native.Nat.{ℕ}
 use mathlib.Core.Path.{◌≡◌, refl, ap, ◌∙◌}
 use mathlib.Core.Bool.{false}
@@ -16,7 +17,6 @@ use Rattle.reel.specs.declared.Reel.{Reel}
 use Rattle.reeling.specs.Reeling.{KeptIs}
 use Rattle.reeling.specs.declared.ReelRead.{ReelRead}
 use Rattle.rewinding.specs.Rewinding.{sought_in}
-use Rattle.rewinding.specs.declared.Sought.TheVariants as soughts
 use Rattle.going.specs.Going.{start_rewind}
 use Rattle.rewind_linked.specs.Linked.{body_run, no_rows}
 use Rattle.rewind_linked.specs.UnderWay.{three_with, two_with, start_in, StartsRewind}
@@ -24,12 +24,12 @@ use Rattle.rewind_linked.specs.steps.Starting.{Begins, no_begin}
 use Rattle.rewind_linked.specs.declared.Begun.{Begun}
 
 module _ (r : TeamReader) (l : Reel) (t : ℤ) where
-  pub found : (n : ℕ) → sought_in r l t ≡ soughts.Newer n → (b : TeamBoard) → b ≡ team_board_of r
+  pub found : (n : ℕ) → sought_in r l t ≡ Ok n → (b : TeamBoard) → b ≡ team_board_of r
       → Begins (start_rewind r l t) (record { number = 0; board = b; newer = n })
   unfolding start_rewind
   found n e b f = rw e (record { number = refl; board = f; newer = refl; fits = refl })
 
-  pub not_found : (why : Refusal) → sought_in r l t ≡ soughts.Refused why → Begins (start_rewind r l t) (no_begin why)
+  pub not_found : (why : Refusal) → sought_in r l t ≡ Err why → Begins (start_rewind r l t) (no_begin why)
   unfolding start_rewind
   not_found why e = rw e (record { number = refl; board = refl; newer = refl; fits = refl })
 

@@ -1,14 +1,12 @@
 -- A rewind under way by calls for C and Rust programs: its own reel, its copy and its numbers stand in arrays of theirs. docs/FORMAT.md, "A rewind
 -- under way".
-use Rattle.std.specs.Prelude.{ℕ, ◌≡◌, Bool, not, cond, List, get_or, set, ℤ, pos, negsuc}
+use Rattle.std.specs.Prelude.{ℕ, ◌≡◌, Bool, not, cond, List, get_or, set, ℤ, pos, negsuc, Option, Some, None}
 use Rattle.refusal.specs.Numbers.{number_of}
 use Rattle.kinds.specs.declared.Version.{Version}
 use Rattle.state.specs.State.{same_int}
 use Rattle.state.specs.declared.Entries.{Entries}
 use Rattle.back.specs.Board.{board}
 use Rattle.back.specs.TeamBoard.{team_board}
-use Rattle.back.specs.declared.BoardTick.{BoardTick}
-use Rattle.back.specs.declared.BoardTick.TheVariants.{In, NoTick}
 use Rattle.reel.specs.Reel.{flag, counts_of, reel_of}
 use Rattle.reel.specs.declared.Counts.{Counts}
 use Rattle.reeling.specs.Reeling.{keep_all}
@@ -24,13 +22,13 @@ use Rattle.rewind_linked.specs.Linked.{body_events, body_reader, no_rows}
 -- ---- numbers for C and Rust programs
 
 -- a board's tick, -1 outside one
-abbrev pub tick_number : BoardTick → ℤ
-tick_number (In t) = t
-tick_number NoTick = negsuc 0
+abbrev pub tick_number : Option ℤ → ℤ
+tick_number (Some t) = t
+tick_number None = negsuc 0
 
 -- any number but -1 is a tick: another negative one is refused 17
-abbrev pub tick_in : ℤ → BoardTick
-tick_in z = cond (same_int z (negsuc 0)) NoTick (In z)
+abbrev pub tick_in : ℤ → Option ℤ
+tick_in z = cond (same_int z (negsuc 0)) None (Some z)
 
 -- any number but 0 says that an event didn't fit
 abbrev pub flag_in : ℤ → Bool
@@ -41,7 +39,7 @@ abbrev pub three_with : List ℕ → Counts → ℕ → List ℕ
 three_with three c newer = set (set (set three 0 c.next) 1 c.count) 2 newer
 
 -- the copy's tick, and 1 or 0 for whether an event didn't fit
-abbrev pub two_with : List ℤ → BoardTick → Bool → List ℤ
+abbrev pub two_with : List ℤ → Option ℤ → Bool → List ℤ
 two_with two t misfit = set (set two 0 (tick_number t)) 1 (flag misfit)
 
 -- ---- starting

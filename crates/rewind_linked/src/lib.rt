@@ -22,12 +22,12 @@ ghost use Rattle.rewind_linked.specs.UnderWay.{
 };
 ghost use Rattle.rewind_linked.specs.steps.Starting.{Begins, no_begin};
 
-use back::{BoardTick, TeamBoard};
+use back::TeamBoard;
 use going::{GoAnswer, Progress};
 use reel::Counts;
 use reeling::ReelRead;
 use refusal::Refusal;
-use rewinding::{RewindAnswer, Sought};
+use rewinding::RewindAnswer;
 use teams::TeamReader;
 
 // The body read whole, with an empty reel at its start.
@@ -144,22 +144,22 @@ pub fn jolzerv_rewind_body(
 // ---- a rewind under way, whose reel, copy and numbers are lent
 
 // A board's tick as a number: -1 is none.
-fn tick_number(tick: BoardTick) -> i32
+fn tick_number(tick: Option<i32>) -> i32
     ensures { result ≡ tick_number tick }
 {
     match tick {
-        BoardTick::In(t) => t,
-        BoardTick::NoTick => -1,
+        Some(t) => t,
+        None => -1,
     }
 }
 
-fn tick_in(number: i32) -> BoardTick
+fn tick_in(number: i32) -> Option<i32>
     ensures { result ≡ tick_in number }
 {
     if compare::same_number(number, -1) {
-        return BoardTick::NoTick;
+        return None;
     }
-    BoardTick::In(number)
+    Some(number)
 }
 
 fn flag_of(b: bool) -> i32
@@ -179,7 +179,7 @@ fn flag_in(number: i32) -> bool
 fn put_numbers(
     counts: Counts,
     newer: usize,
-    tick: BoardTick,
+    tick: Option<i32>,
     misfit: bool,
     three: &mut [usize; 3],
     two: &mut [i32; 2],
@@ -216,12 +216,12 @@ fn begin(reader: TeamReader, counts: Counts, rows: &[i32; 5120], tick: i32) -> B
     ensures { (inputs formers : List ℤ) → Begins (start_rewind reader (reel_of counts rows.now inputs formers) tick) result }
 {
     match rewinding::seek(reader, counts, rows, tick) {
-        Sought::Newer(newer) => Begun {
+        Ok(newer) => Begun {
             number: 0,
             board: back::team_board_of(reader),
             newer,
         },
-        Sought::Refused(why) => refuse_start(why),
+        Err(why) => refuse_start(why),
     }
 }
 

@@ -6,7 +6,7 @@
 
 use back::TeamBoard;
 use feed::Hand;
-use kinds::{Version, VersionOf};
+use kinds::Version;
 use lines::Ending;
 use reel::{Counts, Reel};
 use refusal::Refusal;
@@ -14,7 +14,6 @@ use rewinding::{RewindAnswer, Rewound};
 use state::Entries;
 use teams::TeamReader;
 use texts::Text;
-use varint::Wrote;
 
 const STDOUT_FILENO: i32 = 1;
 
@@ -29,7 +28,7 @@ fn print(text: Text) {
 
 fn print_rewound(rewound: Rewound) {
     let mut text = [0u8; 27036];
-    let Wrote::Past(n) = board_lines::write_rewound(rewound, &mut text, 0) else {
+    let Ok(n) = board_lines::write_rewound(rewound, &mut text, 0) else {
         return;
     };
     say(cases::window(&text, 0, n));
@@ -357,13 +356,13 @@ fn run_case(case: &[u8]) {
     let at = 1 + 4 * ticks;
     let input = cases::window(case, at + 4, case.len());
     match kinds::version_of(cases::first(input)) {
-        VersionOf::Is(version) => run_body(
+        Ok(version) => run_body(
             version,
             cases::window(input, 1, input.len()),
             most_of(wide(cases::window(case, at, case.len()))),
             case,
         ),
-        VersionOf::Refused(refusal) => refuse_each(refusal, ticks),
+        Err(refusal) => refuse_each(refusal, ticks),
     }
 }
 

@@ -1,5 +1,6 @@
 -- Seeking by what the code tests: g is the flag of the test of the reader and the reel, k that of a refused reader; rewinding by what seeking
 -- answers. Assumes nothing.
+use Rattle.std.specs.Prelude.{Result, Ok, Err}
 use Prim.Native.Nat.{ℕ, ◌≤◌, ◌<◌}
 use mathlib.Core.Path.{◌≡◌, refl, sym, ap, ◌∙◌}
 use mathlib.Core.Bool.{Bool, true, false, false≢true, cond, ◌&&◌}
@@ -19,8 +20,6 @@ use Rattle.reel.specs.declared.Counts.{Counts}
 use Rattle.reel.specs.declared.Reel.{Reel}
 use Rattle.reel.proofs.Ring.{rows_length, rows_taken}
 use Rattle.rewinding.specs.Rewinding.{Newer, newer, gone, newer_than, closed_by_refusal, sought_of, sought_in, step_over, copy_of, rewind_to}
-use Rattle.rewinding.specs.declared.Sought.{Sought}
-use Rattle.rewinding.specs.declared.Sought.TheVariants as soughts
 use Rattle.rewinding.proofs.Search.{found_below}
 
 -- the counts of a good reel
@@ -43,7 +42,7 @@ unfolding good_team_reader good_reader
 tested r n s e p t q c g es ee ep et eq ec eg = rw (eg, eq, ep, es, ee, et, ec)
 
 module _ (r : TeamReader) (l : Reel) (t : ℤ) (g : Bool) (good : g ≡ (good_team_reader r && good_reel l)) where
-  pub bad : g ≡ false → soughts.Refused BadState ≡ sought_in r l t
+  pub bad : g ≡ false → Err BadState ≡ sought_in r l t
   unfolding sought_in
   bad n = rw (← good, n)
 
@@ -51,7 +50,7 @@ module _ (r : TeamReader) (l : Reel) (t : ℤ) (g : Bool) (good : g ≡ (good_te
   in_room n = good_room r l (sym good ∙ n)
 
   module _ (n : g ≡ true) (k : Bool) (closed : k ≡ closed_by_refusal r.reader.scalars.standing) where
-    pub refused_reader_law : k ≡ true → soughts.Refused Closed ≡ sought_in r l t
+    pub refused_reader_law : k ≡ true → Err Closed ≡ sought_in r l t
     unfolding sought_in
     refused_reader_law q = rw (← good, n, ← closed, q)
 
@@ -62,28 +61,28 @@ module _ (r : TeamReader) (l : Reel) (t : ℤ) (g : Bool) (good : g ≡ (good_te
 
 -- ---- rewinding
 
-abbrev is_newer : Sought → Bool
-is_newer (soughts.Newer n) = true
-is_newer (soughts.Refused why) = false
+abbrev is_newer : Result ℕ Refusal → Bool
+is_newer (Ok n) = true
+is_newer (Err why) = false
 
 module _ (r : TeamReader) (l : Reel) (t : ℤ) where
   -- it is found only of a good reader and reel
-  pub sought_newer : (n : ℕ) → sought_in r l t ≡ soughts.Newer n → ((good_team_reader r && good_reel l) ≡ true) × (newer_than t (rows_of l) ≡ newer n)
+  pub sought_newer : (n : ℕ) → sought_in r l t ≡ Ok n → ((good_team_reader r && good_reel l) ≡ true) × (newer_than t (rows_of l) ≡ newer n)
   unfolding sought_in
   sought_newer n = by (good_team_reader r && good_reel l) (closed_by_refusal r.reader.scalars.standing) (newer_than t (rows_of l))
     where
-      by : (g k : Bool) (x : Newer) → cond g (cond k (soughts.Refused Closed) (sought_of x)) (soughts.Refused BadState) ≡ soughts.Newer n
+      by : (g k : Bool) (x : Newer) → cond g (cond k (Err Closed) (sought_of x)) (Err BadState) ≡ Ok n
           → (g ≡ true) × (x ≡ newer n)
       by true true x e = absurd (false≢true (ap is_newer e))
       by true false (newer m) e = let q : m ≡ n = cc in (refl, ap newer q)
       by true false gone e = absurd (false≢true (ap is_newer e))
       by false k x e = absurd (false≢true (ap is_newer e))
 
-  pub not_found : (why : Refusal) → sought_in r l t ≡ soughts.Refused why → refused why ≡ rewind_to r l t
+  pub not_found : (why : Refusal) → sought_in r l t ≡ Err why → refused why ≡ rewind_to r l t
   unfolding rewind_to
   not_found why e = rw e
 
-  pub found : (n : ℕ) → sought_in r l t ≡ soughts.Newer n → copy_of (step_over (rows_before l n l.counts.next) (team_board_of r)) ≡ rewind_to r l t
+  pub found : (n : ℕ) → sought_in r l t ≡ Ok n → copy_of (step_over (rows_before l n l.counts.next) (team_board_of r)) ≡ rewind_to r l t
   unfolding rewind_to
   found n e =
       let h : n ≤ l.counts.count = omega (arith, found_below t (rows_of l) n (sym (sought_newer n e).1), rows_length l) in

@@ -1,4 +1,5 @@
 -- The search for a TickStart: the row at a place tested by its numbers, one row after the other. Assumes nothing.
+use Rattle.std.specs.Prelude.{Some, None}
 use Prim.Native.Nat.{ℕ, suc, ◌+◌, ◌-◌, ◌*◌, ◌≤◌, ◌<◌}
 use mathlib.Core.Path.{◌≡◌, refl, ap}
 use mathlib.Core.Bool.{Bool, true, false, cond, ◌&&◌}
@@ -7,7 +8,6 @@ use native.Mathlib.Omega.{arith}
 use lib.ListN.{length, get_or}
 use lib.IntN.{ℤ, pos}
 use Rattle.state.specs.State.{same_int, ten_of}
-use Rattle.teams.specs.declared.Team.TheVariants.{Number, NoTeam}
 use Rattle.back.specs.declared.Undo.TheVariants.{Start, End, New, Change, Old, Input, Team, Nothing}
 use Rattle.reel.specs.Reel.{Row, no_event, is_number, undo_in, place_before, row_at, rows_before, rows_of}
 use Rattle.reel.specs.declared.Reel.{Reel}
@@ -27,7 +27,7 @@ module _ (t a b c d e : ℤ) where
       (cond k5 (Old a b c)
       (cond k6 (cond one (Input a true) (cond none (Input a false) no_event))
       (cond k7 Nothing
-      (cond k8 (cond had (Team a b (Number d)) (cond not (Team a b NoTeam) no_event)) no_event))))))))
+      (cond k8 (cond had (Team a b (Some d)) (cond not (Team a b None) no_event)) no_event))))))))
   told true k2 k3 k4 k5 k6 k7 k8 one none had not = refl
   told false true k3 k4 k5 k6 k7 k8 one none had not = refl
   told false false true k4 k5 k6 k7 k8 one none had not = refl

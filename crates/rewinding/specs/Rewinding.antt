@@ -1,5 +1,6 @@
 -- Rewinding to a tick: a copy of the board, just after the newest TickStart of that tick on the reel. docs/FORMAT.md, "Rewinding".
-use Rattle.std.specs.Prelude.{ℕ, suc, Bool, true, false, cond, ◌&&◌, List, [], ◌∷◌, take, ℤ}
+use Rattle.std.specs.Prelude.{ℕ, suc, Bool, true, false, cond, ◌&&◌, List, [], ◌∷◌, take, ℤ, None, Result, Ok, Err}
+use Rattle.refusal.specs.declared.Refusal.{Refusal}
 use Rattle.refusal.specs.declared.Refusal.TheVariants.{BadState, Closed, NotLast, TickGone}
 use Rattle.state.specs.State.{same_int, no_entries}
 use Rattle.state.specs.declared.Standing.{Standing}
@@ -11,13 +12,10 @@ use Rattle.back.specs.TeamBoard.{team_board, team_board_of, TeamBack, was, refus
 use Rattle.back.specs.Undo.{undone, former_in}
 use Rattle.back.specs.declared.Undo.{Undo}
 use Rattle.back.specs.declared.Undo.TheVariants.{Start, End, New, Change, Old, Input, Team, Nothing}
-use Rattle.back.specs.declared.BoardTick.TheVariants.{NoTick}
 use Rattle.back.specs.declared.TeamBoard.{TeamBoard}
 use Rattle.taking.specs.Taking.{TeamTaken, team_taken_from}
 use Rattle.reel.specs.Reel.{Row, good_reel, rows_of}
 use Rattle.reel.specs.declared.Reel.{Reel}
-use Rattle.rewinding.specs.declared.Sought.{Sought}
-use Rattle.rewinding.specs.declared.Sought.TheVariants as soughts
 use Rattle.rewinding.specs.declared.RewindAnswer.TheVariants as answers
 use Rattle.rewinding.specs.declared.Rewound.{Rewound}
 
@@ -52,16 +50,16 @@ closed_by_refusal standings.Open = false
 closed_by_refusal standings.Finished = false
 closed_by_refusal standings.Refused = true
 
-abbrev pub sought_of : Newer → Sought
-sought_of (newer n) = soughts.Newer n
-sought_of gone = soughts.Refused TickGone
+abbrev pub sought_of : Newer → Result ℕ Refusal
+sought_of (newer n) = Ok n
+sought_of gone = Err TickGone
 
 -- 17 (reader, reel), 18, 20
-unfoldable pub sought_in : TeamReader → Reel → ℤ → Sought
+unfoldable pub sought_in : TeamReader → Reel → ℤ → Result ℕ Refusal
 sought_in r l t =
     cond (good_team_reader r && good_reel l)
-    (cond (closed_by_refusal r.reader.scalars.standing) (soughts.Refused Closed) (sought_of (newer_than t (rows_of l))))
-    (soughts.Refused BadState)
+    (cond (closed_by_refusal r.reader.scalars.standing) (Err Closed) (sought_of (newer_than t (rows_of l))))
+    (Err BadState)
 
 -- ---- stepping over rows
 
@@ -80,9 +78,9 @@ abbrev pub copy_of : TeamTaken → TeamBack
 copy_of t = cond t.fits (was t.board) (refused NotLast)
 
 -- of the rows that are newer than TickStart; TickStart itself is not stepped over
-abbrev pub step_back_to : List Row → TeamBoard → Sought → TeamBack
-step_back_to rows b (soughts.Newer n) = copy_of (step_over (take n rows) b)
-step_back_to rows b (soughts.Refused r) = refused r
+abbrev pub step_back_to : List Row → TeamBoard → Result ℕ Refusal → TeamBack
+step_back_to rows b (Ok n) = copy_of (step_over (take n rows) b)
+step_back_to rows b (Err r) = refused r
 
 -- 17 (reader, reel), 18, 20, 19
 unfoldable pub rewind_to : TeamReader → Reel → ℤ → TeamBack
@@ -90,7 +88,7 @@ rewind_to r l t = step_back_to (rows_of l) (team_board_of r) (sought_in r l t)
 
 -- what the call hands back: in a refusal there is no copy, and the board is blank
 abbrev pub blank_board : TeamBoard
-blank_board = team_board (board NoTick no_entries) no_teams
+blank_board = team_board (board None no_entries) no_teams
 
 abbrev pub rewound_of : TeamBack → Rewound
 rewound_of (was b) = record { answer = answers.Ended; board = b }

@@ -10,7 +10,7 @@ ghost use Rattle.rewinding.specs.Rewinding.{is_start, newer_than, closed_by_refu
 ghost use Rattle.rewinding.specs.steps.Found.{found_is};
 ghost use Rattle.rewinding.specs.Walk.{walk, rows_from, walked_is};
 
-use back::{Board, BoardTick, TeamBoard};
+use back::{Board, TeamBoard};
 use reel::{Counts, Reel};
 use refusal::Refusal;
 use state::{Entries, Standing};
@@ -30,20 +30,6 @@ pub struct Rewound {
     pub board: TeamBoard,
 }
 
-// How many rows are newer than the TickStart, or that it is not there.
-#[derive(Clone, Copy)]
-enum Found {
-    Newer(usize),
-    Gone,
-}
-
-// The same, or the refusal.
-#[derive(Clone, Copy)]
-pub enum Sought {
-    Newer(usize),
-    Refused(Refusal),
-}
-
 // What stepping over rows leaves, how many fitted, and the place before which the others stand.
 #[derive(Clone, Copy)]
 pub struct Over {
@@ -54,7 +40,7 @@ pub struct Over {
 
 // The newest TickStart of a tick.
 #[tactic(auto, using(crate::proofs::Steps::before_below))]
-fn find_start(counts: Counts, rows: &[i32; 5120], tick: i32) -> Found
+fn find_start(counts: Counts, rows: &[i32; 5120], tick: i32) -> Option<usize>
     requires { (counts.next < 512) × (counts.count ≤ 512) }
     ensures { (inputs formers : List ℤ) → found_is result ≡ newer_than tick (rows_of (reel_of counts rows.now inputs formers)) }
 {
@@ -63,11 +49,11 @@ fn find_start(counts: Counts, rows: &[i32; 5120], tick: i32) -> Found
     while n < counts.count {
         place = reel::place_before(place);
         if is_start(rows, place, tick) {
-            return Found::Newer(n);
+            return Some(n);
         }
         n += 1;
     }
-    Found::Gone
+    None
 }
 
 // Whether the row at a place is TickStart of a tick.
@@ -102,7 +88,12 @@ fn closed_by_refusal(standing: Standing) -> bool
 
 // The newest TickStart of a tick on a reel beside a reader: how many rows are newer. Refused 17 (reader, reel), 18 (a reader closed by a
 // refusal), 20 (no such TickStart), in this order.
-pub fn seek(reader: TeamReader, counts: Counts, rows: &[i32; 5120], tick: i32) -> Sought
+pub fn seek(
+    reader: TeamReader,
+    counts: Counts,
+    rows: &[i32; 5120],
+    tick: i32,
+) -> Result<usize, Refusal>
     ensures { (inputs formers : List ℤ) → result ≡ sought_in reader (reel_of counts rows.now inputs formers) tick }
 {
     let teams = reader.teams;
@@ -119,21 +110,21 @@ pub fn seek(reader: TeamReader, counts: Counts, rows: &[i32; 5120], tick: i32) -
         ),
         reel::good_counts(counts),
     ) {
-        return Sought::Refused(Refusal::BadState);
+        return Err(Refusal::BadState);
     }
     let standing = scalars.standing;
     if closed_by_refusal(standing) {
-        return Sought::Refused(Refusal::Closed);
+        return Err(Refusal::Closed);
     }
     match find_start(counts, rows, tick) {
-        Found::Newer(n) => Sought::Newer(n),
-        Found::Gone => Sought::Refused(Refusal::TickGone),
+        Some(n) => Ok(n),
+        None => Err(Refusal::TickGone),
     }
 }
 
 // Steps over the n rows before a place, while they fit.
 fn walk_over(
-    tick: BoardTick,
+    tick: Option<i32>,
     marks: &mut [u8; 128],
     xs: &mut [i32; 128],
     ys: &mut [i32; 128],
@@ -187,7 +178,7 @@ fn walk_over(
 
 // The same for any place: before one that is none of the 512 there are no rows. Whether the board is a good one (17) is not tested.
 pub fn step_over(
-    tick: BoardTick,
+    tick: Option<i32>,
     marks: &mut [u8; 128],
     xs: &mut [i32; 128],
     ys: &mut [i32; 128],
@@ -222,7 +213,7 @@ pub fn blank_board() -> TeamBoard
 {
     TeamBoard {
         board: Board {
-            tick: BoardTick::NoTick,
+            tick: None,
             entries: Entries {
                 marks: [0; 128],
                 xs: [0; 128],
@@ -316,7 +307,7 @@ pub fn rewind_lent(
     ensures { result ≡ rewound_of (rewind_to reader (reel_of counts rows.now inputs.now formers.now) tick) }
 {
     match seek(reader, counts, rows, tick) {
-        Sought::Newer(n) => over_newest(
+        Ok(n) => over_newest(
             back::team_board_of(reader),
             n,
             counts,
@@ -324,7 +315,7 @@ pub fn rewind_lent(
             inputs,
             formers,
         ),
-        Sought::Refused(why) => refuse(why),
+        Err(why) => refuse(why),
     }
 }
 

@@ -10,14 +10,13 @@ ghost use Rattle.going.specs.Going.{no_rewind, start_rewind, go_on};
 ghost use Rattle.going.specs.Lent.{go_is};
 ghost use Rattle.going.specs.declared.StartAnswer.TheVariants as starts;
 
-use back::{Board, BoardTick, TeamBoard};
+use back::{Board, TeamBoard};
 use going::{Go, LentGo, Progress, Rewind, Start, StartAnswer};
-use lookups::{InputOf, Pos};
+use lookups::Pos;
 use reel::Reel;
 use refusal::Refusal;
-use rewinding::Sought;
 use state::Entries;
-use teams::{Team, TeamReader};
+use teams::TeamReader;
 
 // No rewind.
 fn no_start(why: Refusal) -> Start
@@ -45,7 +44,7 @@ pub fn start_rewind(reader: TeamReader, reel: Reel, tick: i32) -> Start
     let counts = reel.counts;
     let rows = reel.rows;
     match rewinding::seek(reader, counts, &rows, tick) {
-        Sought::Newer(newer) => Start {
+        Ok(newer) => Start {
             answer: StartAnswer::Started,
             rewind: Rewind {
                 board: back::team_board_of(reader),
@@ -57,7 +56,7 @@ pub fn start_rewind(reader: TeamReader, reel: Reel, tick: i32) -> Start
                 },
             },
         },
-        Sought::Refused(why) => no_start(why),
+        Err(why) => no_start(why),
     }
 }
 
@@ -149,7 +148,7 @@ pub fn go_on(rewind: Rewind, events: usize) -> Go
 // ---- looking at the copy
 
 // The position of a client on the copy, or none.
-pub fn player_pos(rewind: Rewind, cid: i32) -> Pos
+pub fn player_pos(rewind: Rewind, cid: i32) -> Option<Pos>
     ensures { result ≡ pos_of rewind.board.board.entries cid }
 {
     let whole = rewind.board;
@@ -158,7 +157,7 @@ pub fn player_pos(rewind: Rewind, cid: i32) -> Pos
 }
 
 // The ten input numbers of a client on the copy, or none.
-pub fn input(rewind: Rewind, cid: i32) -> InputOf
+pub fn input(rewind: Rewind, cid: i32) -> Option<[i32; 10]>
     ensures { result ≡ input_for rewind.board.board.entries cid }
 {
     let whole = rewind.board;
@@ -167,7 +166,7 @@ pub fn input(rewind: Rewind, cid: i32) -> InputOf
 }
 
 // The team of a client on the copy, or none.
-pub fn team(rewind: Rewind, cid: i32) -> Team
+pub fn team(rewind: Rewind, cid: i32) -> Option<i32>
     ensures { result ≡ team_of rewind.board.teams cid }
 {
     let whole = rewind.board;
@@ -175,7 +174,7 @@ pub fn team(rewind: Rewind, cid: i32) -> Team
 }
 
 // The copy's tick, or none.
-pub fn tick(rewind: Rewind) -> BoardTick
+pub fn tick(rewind: Rewind) -> Option<i32>
     ensures { result ≡ rewind.board.board.tick }
 {
     let whole = rewind.board;

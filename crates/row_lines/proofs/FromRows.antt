@@ -1,4 +1,5 @@
 -- The line of an event, from its row. Assumes nothing.
+use Rattle.std.specs.Prelude.{Option, Some, None}
 use Prim.Native.Nat.{ℕ, zero, suc, ◌+◌, ◌*◌, ◌-◌, ◌≤◌, ◌<◌}
 use mathlib.Core.Path.{◌≡◌, refl, sym, ◌∙◌, ap}
 use mathlib.Core.List.{List, [], ◌∷◌, ◌++◌}
@@ -15,11 +16,8 @@ use Rattle.packer.specs.declared.Part.{Part}
 use Rattle.item.specs.Records.{Content}
 use Rattle.item.specs.Contents.{cid_of}
 use Rattle.item.specs.Numbers.{tag_number}
-use Rattle.kinds.specs.declared.Cid.{Cid}
-use Rattle.kinds.specs.declared.Cid.TheVariants.{Of, NoCid}
 use Rattle.state.specs.Reading.{Event, tick_start, tick_end, player_new, player_change, player_old, input, other}
 use Rattle.teams.specs.Teams.{Joining, joins, nobody, mark_for, number_for, on_joining, joining_in}
-use Rattle.teams.specs.declared.Team.{Team}
 use Rattle.team_calls.specs.Lists.{TeamSeen}
 use Rattle.rows.specs.Rows.{client_flag, client_or0, eight, plain_row, event_row, row_of, event_tens, tens_of}
 use Rattle.lines.specs.Lines.{
@@ -43,16 +41,16 @@ use Rattle.row_lines.proofs.TeamLine.{team_line_law}
 
 -- ---- the client of which two numbers tell
 
-pub told_one : (h c : ℤ) → SFits w32 h → of_z w32 h ≡ 1 → Of c ≡ cid_told h c
+pub told_one : (h c : ℤ) → SFits w32 h → of_z w32 h ≡ 1 → Some c ≡ cid_told h c
 told_one h c f e = let p : h ≡ pos 1 = key h f e in rw p
 
-pub told_none : (h c : ℤ) → (of_z w32 h ≡ 1 → ⊥) → NoCid ≡ cid_told h c
+pub told_none : (h c : ℤ) → (of_z w32 h ≡ 1 → ⊥) → None ≡ cid_told h c
 told_none (pos n) c f = let t = ne_eqb n 1 f in simp t
 told_none (negsuc n) c f = refl
 
-told_back : (c : Cid) → cid_told (client_flag c) (client_or0 c) ≡ c
-told_back (Of z) = refl
-told_back NoCid = refl
+told_back : (c : Option ℤ) → cid_told (client_flag c) (client_or0 c) ≡ c
+told_back (Some z) = refl
+told_back None = refl
 
 -- ---- by the event's number
 
@@ -69,18 +67,18 @@ line_by (suc (suc (suc (suc (suc (suc n)))))) row ten = plain_line input_word (g
 -- ---- a record's row by what it says of a team
 
 -- of a PlayerTeam and of any other record
-abbrev record_row : Team → ℤ → ℤ → List ℤ → Joining → List ℤ
+abbrev record_row : Option ℤ → ℤ → ℤ → List ℤ → Joining → List ℤ
 record_row m n p plain j = on_joining (λ c t. eight 8 n c t (mark_for m) (number_for m) p) plain j
 
 abbrev first_bits : List ℤ → ℕ
 first_bits row = of_z w32 (get_or row 0 (pos 0))
 
-no_small : (m : Team) (n p : ℤ) (plain : List ℤ) (j : Joining) (k : ℕ) → first_bits plain ≡ 7 → first_bits (record_row m n p plain j) ≡ k → k ≤ 6 → ⊥
+no_small : (m : Option ℤ) (n p : ℤ) (plain : List ℤ) (j : Joining) (k : ℕ) → first_bits plain ≡ 7 → first_bits (record_row m n p plain j) ≡ k → k ≤ 6 → ⊥
 no_small m n p plain (joins c t) k q e h = omega arith
 no_small m n p plain nobody k q e h = omega arith
 
 -- of the numbers 1 to 6
-by_number : (e : Event) (m : Team) (n p : ℤ) (ten : List ℤ) (k : ℕ) → first_bits (event_row e m n p) ≡ k → k ≤ 6
+by_number : (e : Event) (m : Option ℤ) (n p : ℤ) (ten : List ℤ) (k : ℕ) → first_bits (event_row e m n p) ≡ k → k ≤ 6
     → line_by k (event_row e m n p) ten ≡ line_of e ten
 unfolding line_by
 by_number (tick_start t) m n p ten k e h = rw (← e)
@@ -92,13 +90,13 @@ by_number (input c former) m n p ten k e h = rw (← e)
 by_number (other r) m n p ten k e h = absurd (no_small m n p (plain_row r n p) (joining_in r) k refl e h)
 
 -- of 8
-team_told : (r : Content Part) (m : Team) (n p : ℤ) (j : Joining) → joining_in r ≡ j → first_bits (record_row m n p (plain_row r n p) j) ≡ 8
-    → record_line (negsuc 10) (Of (get_or (record_row m n p (plain_row r n p) j) 2 (pos 0))) ≡ record_line (tag_number r.tag) (cid_of r)
+team_told : (r : Content Part) (m : Option ℤ) (n p : ℤ) (j : Joining) → joining_in r ≡ j → first_bits (record_row m n p (plain_row r n p) j) ≡ 8
+    → record_line (negsuc 10) (Some (get_or (record_row m n p (plain_row r n p) j) 2 (pos 0))) ≡ record_line (tag_number r.tag) (cid_of r)
 team_told r m n p (joins c t) q e = team_line_law r c t q
 team_told r m n p nobody q e = absurd (omega arith)
 
-team_row_law : (e : Event) (m : Team) (n p : ℤ) (ten : List ℤ) → first_bits (event_row e m n p) ≡ 8
-    → record_line (negsuc 10) (Of (get_or (event_row e m n p) 2 (pos 0))) ≡ line_of e ten
+team_row_law : (e : Event) (m : Option ℤ) (n p : ℤ) (ten : List ℤ) → first_bits (event_row e m n p) ≡ 8
+    → record_line (negsuc 10) (Some (get_or (event_row e m n p) 2 (pos 0))) ≡ line_of e ten
 team_row_law (tick_start t) m n p ten e = absurd (omega arith)
 team_row_law (tick_end t) m n p ten e = absurd (omega arith)
 team_row_law (player_new c x y) m n p ten e = absurd (omega arith)
@@ -112,12 +110,12 @@ abbrev Unlike : ℕ → Type 0
 Unlike b =
     (((((((Unit {0} × (b ≡ 1 → ⊥)) × (b ≡ 2 → ⊥)) × (b ≡ 3 → ⊥)) × (b ≡ 4 → ⊥)) × (b ≡ 5 → ⊥)) × (b ≡ 6 → ⊥)) × (b ≡ 8 → ⊥))
 
-plain_told : (r : Content Part) (m : Team) (n p : ℤ) (j : Joining) → Unlike (first_bits (record_row m n p (plain_row r n p) j))
+plain_told : (r : Content Part) (m : Option ℤ) (n p : ℤ) (j : Joining) → Unlike (first_bits (record_row m n p (plain_row r n p) j))
     → record_told (record_row m n p (plain_row r n p) j) 2 ≡ record_line (tag_number r.tag) (cid_of r)
 plain_told r m n p (joins c t) u = absurd (u.1 refl)
 plain_told r m n p nobody u = ap (record_line (tag_number r.tag)) (told_back (cid_of r))
 
-record_row_law : (e : Event) (m : Team) (n p : ℤ) (ten : List ℤ) → Unlike (first_bits (event_row e m n p)) → record_told (event_row e m n p) 2 ≡ line_of e ten
+record_row_law : (e : Event) (m : Option ℤ) (n p : ℤ) (ten : List ℤ) → Unlike (first_bits (event_row e m n p)) → record_told (event_row e m n p) 2 ≡ line_of e ten
 record_row_law (tick_start t) m n p ten u = absurd (u.0.0.0.0.0.0.1 refl)
 record_row_law (tick_end t) m n p ten u = absurd (u.0.0.0.0.0.1 refl)
 record_row_law (player_new c x y) m n p ten u = absurd (u.0.0.0.0.1 refl)
@@ -133,7 +131,7 @@ pub puts_of : (most : ℕ) (xs : List ℕ) (at : ℕ) (line : List ℕ) (next : 
 puts_of most xs at line next ys h p = let t = le-leb (at + most) (length xs) h in rw t at p
 
 -- the ten numbers of an input
-ten_of_law : (e : Event) (m : Team) (n p : ℤ) (ten former l : List ℤ) → length ten ≡ 10 → first_bits (event_row e m n p) ≡ 6
+ten_of_law : (e : Event) (m : Option ℤ) (n p : ℤ) (ten former l : List ℤ) → length ten ≡ 10 → first_bits (event_row e m n p) ≡ 6
     → take (length (event_tens e ten former)) l ≡ event_tens e ten former → take 10 l ≡ ten
 ten_of_law (tick_start t) m n p ten former l h k e = absurd (omega arith)
 ten_of_law (tick_end t) m n p ten former l h k e = absurd (omega arith)
@@ -200,12 +198,12 @@ module _ (x : TeamSeen) (i : ℕ) (rows tens : List ℤ) (t : InRow x i rows ten
         same_text xs at _ _ g next ys (puts_of (plain_most input_word ns) xs at (plain_line input_word ns) next ys (omega arith) p)
 
     pub team_put : of_z w32 (get_or rows (8 * i) (pos 0)) ≡ 8
-        → Tries longest xs at (record_line (negsuc 10) (Of (get_or rows (8 * i + 2) (pos 0)))) next ys
+        → Tries longest xs at (record_line (negsuc 10) (Some (get_or rows (8 * i + 2) (pos 0)))) next ys
         → PutsText xs at (line_of x.seen.event x.seen.ten) next ys
     unfolding row_of
     team_put b p =
-        let g : record_line (negsuc 10) (Of (get_or rows (8 * i + 2) (pos 0))) ≡ line_of x.seen.event x.seen.ten =
-        ap (λ (z : ℤ). record_line (negsuc 10) (Of z)) (number 2 (omega arith))
+        let g : record_line (negsuc 10) (Some (get_or rows (8 * i + 2) (pos 0))) ≡ line_of x.seen.event x.seen.ten =
+        ap (λ (z : ℤ). record_line (negsuc 10) (Some z)) (number 2 (omega arith))
         ∙ team_row_law x.seen.event x.team _ _ x.seen.ten (sym bits ∙ b) in
         same_text xs at _ _ g next ys (puts_of longest xs at _ next ys room p)
 

@@ -1,21 +1,19 @@
 // Lines of text from rows of numbers.
 #![tactic(auto)]
 
-ghost use Rattle.std.specs.Prelude.{◌≡◌, ◌+◌, ◌*◌, ◌-◌, ◌≤◌, length, take, drop, get_or, pos, negsuc};
-ghost use Rattle.kinds.specs.declared.Cid.TheVariants.{Of};
+ghost use Rattle.std.specs.Prelude.{◌≡◌, ◌+◌, ◌*◌, ◌-◌, ◌≤◌, length, take, drop, get_or, pos, negsuc, Some};
 ghost use Rattle.lines.specs.Lines.{input_word, record_line, longest};
 ghost use Rattle.row_lines.specs.steps.RowLines.{past_or, Tries, TriesPlain, cid_told, client_and, record_told, PutsLine, PutsLines};
 
-use kinds::Cid;
-use varint::Wrote;
+use refusal::Refusal;
 
 // The place past what was written, else the place itself.
-pub fn past_or(wrote: Wrote, at: usize) -> usize
+pub fn past_or(wrote: Result<usize, Refusal>, at: usize) -> usize
     ensures { result ≡ past_or wrote at }
 {
     match wrote {
-        Wrote::Past(next) => next,
-        Wrote::Refused(_) => at,
+        Ok(next) => next,
+        Err(_) => at,
     }
 }
 
@@ -47,13 +45,13 @@ fn put_input(
 }
 
 // The client of which two numbers tell: whether there is one, and its number.
-fn cid_of(has: i32, client: i32) -> Cid
+fn cid_of(has: i32, client: i32) -> Option<i32>
     ensures { result ≡ cid_told has client }
 {
     if has == 1 {
-        return Cid::Of(client);
+        return Some(client);
     }
-    Cid::NoCid
+    None
 }
 
 // The line of a record whose kind's number and client stand at a place of the rows.
@@ -68,10 +66,10 @@ fn put_record(rows: &[i32], first: usize, out: &mut [u8], at: usize) -> usize
 // The line of a PlayerTeam whose client stands at a place of the rows.
 fn put_team(rows: &[i32], first: usize, out: &mut [u8], at: usize) -> usize
     requires { first + 1 ≤ length rows.now }
-    ensures { Tries longest out.old at (record_line (negsuc 10) (Of (get_or rows.now first (pos 0)))) result out.new }
+    ensures { Tries longest out.old at (record_line (negsuc 10) (Some (get_or rows.now first (pos 0)))) result out.new }
 {
     let client = rows[first];
-    past_or(lines::write_record(-11, Cid::Of(client), out, at), at)
+    past_or(lines::write_record(-11, Some(client), out, at), at)
 }
 
 // The line of event i, from its row and its ten numbers: the place past it.

@@ -1,4 +1,5 @@
 -- Blocks of numbers put into a memory at places a fixed distance apart; rows and tens are put so. Assumes nothing.
+use Rattle.std.specs.Prelude.{Option}
 use Prim.Native.Nat.{ℕ, zero, suc, ◌+◌, ◌*◌, ◌≤◌}
 use mathlib.Core.Path.{◌≡◌, refl, sym, ◌∙◌, ap}
 use mathlib.Core.List.{List, [], ◌∷◌, ◌++◌, append_assoc}
@@ -10,7 +11,6 @@ use Rattle.state.specs.Reading.{Event, tick_start, tick_end, player_new, player_
 use Rattle.calls.specs.Calls.{Seen}
 use Rattle.calls.specs.Laws.{TensBeside}
 use Rattle.teams.specs.Teams.{Joining, joins, nobody, mark_for, number_for, teams_after, on_joining, joining_in}
-use Rattle.teams.specs.declared.Team.{Team}
 use Rattle.team_calls.specs.Lists.{TeamSeen, with_formers}
 use Rattle.rows.specs.Rows.{eight, plain_row, event_row, row_of, event_tens, tens_of, put, rows_from, tens_from}
 use Rattle.rows.specs.steps.Stores.{AllInRows}
@@ -98,12 +98,12 @@ module _ (f : TeamSeen → List ℤ) (k : ℕ) where
 
 -- ---- rows and tens
 
-record_row_length : (m : Team) (n p : ℤ) (plain : List ℤ) (j : Joining) → length plain ≡ 8
+record_row_length : (m : Option ℤ) (n p : ℤ) (plain : List ℤ) (j : Joining) → length plain ≡ 8
     → length (on_joining (λ c t. eight 8 n c t (mark_for m) (number_for m) p) plain j) ≡ 8
 record_row_length m n p plain (joins c t) h = refl
 record_row_length m n p plain nobody h = h
 
-event_row_length : (e : Event) (m : Team) (n p : ℤ) → length (event_row e m n p) ≡ 8
+event_row_length : (e : Event) (m : Option ℤ) (n p : ℤ) → length (event_row e m n p) ≡ 8
 event_row_length (tick_start t) m n p = refl
 event_row_length (tick_end t) m n p = refl
 event_row_length (player_new c x y) m n p = refl

@@ -1,15 +1,12 @@
 -- Rows of numbers that tell of events: eight numbers for each, and twenty for an input. docs/FORMAT.md, "Many events in one call".
-use Rattle.std.specs.Prelude.{ℕ, suc, ◌+◌, ◌*◌, ◌/◌, min, Bool, true, false, List, [], ◌∷◌, ◌++◌, length, take, drop, ℤ, pos}
+use Rattle.std.specs.Prelude.{ℕ, suc, ◌+◌, ◌*◌, ◌/◌, min, Bool, true, false, List, [], ◌∷◌, ◌++◌, length, take, drop, ℤ, pos, Option, Some, None}
 use Rattle.num.specs.Wrap.{wrap32}
 use Rattle.packer.specs.declared.Part.{Part}
 use Rattle.item.specs.Records.{Content}
 use Rattle.item.specs.Contents.{cid_of}
 use Rattle.item.specs.Numbers.{tag_number}
-use Rattle.kinds.specs.declared.Cid.{Cid}
-use Rattle.kinds.specs.declared.Cid.TheVariants.{Of, NoCid}
 use Rattle.state.specs.Reading.{Event, tick_start, tick_end, player_new, player_change, player_old, input, other}
 use Rattle.teams.specs.Teams.{mark_for, number_for, on_joining, joining_in}
-use Rattle.teams.specs.declared.Team.{Team}
 use Rattle.team_calls.specs.Lists.{TeamSeen}
 
 -- ---- one event
@@ -18,13 +15,13 @@ abbrev pub flag : Bool → ℤ
 flag true = pos 1
 flag false = pos 0
 
-abbrev pub client_flag : Cid → ℤ
-client_flag (Of c) = pos 1
-client_flag NoCid = pos 0
+abbrev pub client_flag : Option ℤ → ℤ
+client_flag (Some c) = pos 1
+client_flag None = pos 0
 
-abbrev pub client_or0 : Cid → ℤ
-client_or0 (Of c) = c
-client_or0 NoCid = pos 0
+abbrev pub client_or0 : Option ℤ → ℤ
+client_or0 (Some c) = c
+client_or0 None = pos 0
 
 abbrev pub eight : ℕ → ℤ → ℤ → ℤ → ℤ → ℤ → ℤ → List ℤ
 eight event used a b c d e = pos event ∷ used ∷ a ∷ b ∷ c ∷ d ∷ e ∷ pos 0 ∷ []
@@ -36,7 +33,7 @@ plain_row r n p = eight 7 n (tag_number r.tag) (client_flag (cid_of r)) (client_
 -- the event's number, the bytes used (modulo 2^32, signed), then the event's own numbers and zeros. Of a record: its kind, whether it
 -- has a client, the client, whether its kind was pending; of a PlayerTeam (number 8): the client, its team, whether it had one before, the
 -- former one, whether its kind was pending
-abbrev pub event_row : Event → Team → ℤ → ℤ → List ℤ
+abbrev pub event_row : Event → Option ℤ → ℤ → ℤ → List ℤ
 event_row (tick_start t) m n p = eight 1 n t (pos 0) (pos 0) (pos 0) (pos 0)
 event_row (tick_end t) m n p = eight 2 n t (pos 0) (pos 0) (pos 0) (pos 0)
 event_row (player_new c x y) m n p = eight 3 n c x y (pos 0) (pos 0)

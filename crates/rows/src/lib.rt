@@ -11,9 +11,8 @@ ghost use Rattle.rows.specs.Rows.{flag, plain_row, event_row, put};
 ghost use Rattle.rows.specs.steps.Stores.{Filled, EventPut};
 
 use item::Item;
-use kinds::Cid;
-use state::{Event, Pending, Scalars};
-use teams::{Joining, Team};
+use state::{Event, Scalars};
+use teams::PlayerTeam;
 
 // A number of bytes, modulo 2^32 and signed.
 fn wrapped(n: usize) -> i32
@@ -33,7 +32,7 @@ pub fn pending_flag(s: Scalars) -> i32
     ensures { result ≡ flag (is_pending s.pending) }
 {
     let pending = s.pending;
-    let Pending::Is(_) = pending else {
+    let Some(_) = pending else {
         return 0;
     };
     1
@@ -81,18 +80,18 @@ fn put_plain(item: Item, used: i32, pending: i32, rows: &mut [i32], i: usize)
 {
     let kind = item.kind_number();
     match item.cid() {
-        Cid::Of(c) => put_row(rows, i, 7, used, kind, 1, c, pending, 0),
-        Cid::NoCid => put_row(rows, i, 7, used, kind, 0, 0, pending, 0),
+        Some(c) => put_row(rows, i, 7, used, kind, 1, c, pending, 0),
+        None => put_row(rows, i, 7, used, kind, 0, 0, pending, 0),
     }
 }
 
 // The row of a record; team is the former one beside a PlayerTeam.
-fn put_record(item: Item, team: Team, used: i32, pending: i32, rows: &mut [i32], i: usize)
+fn put_record(item: Item, team: Option<i32>, used: i32, pending: i32, rows: &mut [i32], i: usize)
     requires { 8 * i + 8 ≤ length rows.old }
     ensures { rows.new ≡ put rows.old (8 * i) (event_row (other (item_of item)) team used pending) }
 {
     match teams::joining_in(item) {
-        Joining::Joins { cid, team: number } => put_row(
+        Some(PlayerTeam { cid, team: number }) => put_row(
             rows,
             i,
             8,
@@ -103,7 +102,7 @@ fn put_record(item: Item, team: Team, used: i32, pending: i32, rows: &mut [i32],
             teams::number_for(team),
             pending,
         ),
-        Joining::Nobody => put_plain(item, used, pending, rows, i),
+        None => put_plain(item, used, pending, rows, i),
     }
 }
 

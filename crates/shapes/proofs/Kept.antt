@@ -1,4 +1,5 @@
 -- What a reading function answered, as the definition reads it there and in the form that the code keeps. Assumes nothing.
+use Rattle.std.specs.Prelude.{Option}
 use Prim.Native.Nat.{ℕ}
 use mathlib.Core.Path.{◌≡◌, refl, sym, ◌∙◌, ap}
 use mathlib.Core.Bool.{true, false, false≢true}
@@ -30,7 +31,7 @@ use Rattle.shapes.specs.declared.FieldsRead.TheVariants as code
 
 module _ (s : List ℕ) (at : ℕ) where
   -- a number: the code keeps its bits
-  pub int_kept : {a : IntRead} {z : ℤ} {next : ℕ} {remark : Remark} → a ≡ read_int s at → a ≡ ints.Got z next remark
+  pub int_kept : {a : IntRead} {z : ℤ} {next : ℕ} {remark : Option Remark} → a ≡ read_int s at → a ≡ ints.Got z next remark
       → read_int s at ≡ ints.Got (to_z w32 (of_z w32 z)) next remark
   int_kept {z = z} {next = next} {remark = remark} e g =
       let reads = sym e ∙ g in
@@ -83,6 +84,6 @@ nothing IntUuidIntStr e = absurd (false≢true e)
 nothing IntData e = absurd (false≢true e)
 
 -- the first number, and what follows it
-pub first_then : (shape : Shape) → is_nothing shape ≡ false → (s : List ℕ) (at : ℕ) {z : ℤ} {n : ℕ} {m : Remark} → read_int s at ≡ ints.Got z n m
+pub first_then : (shape : Shape) → is_nothing shape ≡ false → (s : List ℕ) (at : ℕ) {z : ℤ} {n : ℕ} {m : Option Remark} → read_int s at ≡ ints.Got z n m
     → push (num z) (read_fields (drop 1 (fields_in shape)) s n) ≡ read_fields (fields_in shape) s at
 first_then shape e s at g = sym (ap (λ fs. read_fields fs s at) (begins shape e) ∙ rw g)

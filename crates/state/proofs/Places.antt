@@ -1,4 +1,5 @@
 -- Where kinds and records that were read end: within the window. Of which sort a record is. Assumes nothing.
+use Rattle.std.specs.Prelude.{Option, Some, None}
 use Prim.Native.Nat.{ℕ, zero, suc, ◌≤◌, zero-le}
 use mathlib.Core.Path.{◌≡◌, refl}
 use mathlib.Core.Bool.{true}
@@ -22,8 +23,6 @@ use Rattle.kinds.specs.Kinds.{kind_of, read_kind}
 use Rattle.kinds.specs.steps.Kinds.{with_client, extension_kind, after_number}
 use Rattle.extensions.specs.Extensions.{Payload, shaped, all_data, find, payload_at}
 use Rattle.extensions.specs.declared.Extension.{Extension}
-use Rattle.extensions.specs.declared.Found.{Found}
-use Rattle.extensions.specs.declared.Found.TheVariants.{Known, Unknown}
 use Rattle.item.specs.Records.{Content, Rest, fields, rest_of, as_content, of_payload, of_found, read_ex, read_as, read_rest}
 use Rattle.item.specs.steps.Reading.{up_to, after_data, after_id}
 use Rattle.item.specs.Records as records
@@ -36,8 +35,6 @@ use Rattle.state.specs.Sorts.{sort_of, tag_sort}
 use Rattle.state.specs.State.{good_pending}
 use Rattle.state.specs.steps.Parts.{good_kind}
 use Rattle.state.specs.Reading.{next_kind}
-use Rattle.state.specs.declared.Pending.{Pending}
-use Rattle.state.specs.declared.Pending.TheVariants.{Is, NoKind}
 
 -- ---- kinds
 
@@ -76,20 +73,20 @@ number_read v w (ints.Got z next remark) e = kind_read_law v w z next (int_withi
 number_read v w ints.RunsOut e = tt
 
 -- the pending kind or one that is read; good if the pending one is
-abbrev pub kind_told : Version → Pending → ℕ → Reading Kind → Type 0
+abbrev pub kind_told : Version → Option Kind → ℕ → Reading Kind → Type 0
 kind_told v p l (got k n) = (n ≤ l) × (good_pending v p ≡ true → good_kind v k ≡ true)
 kind_told v p l runs_out = Unit
 kind_told v p l (refused r) = Unit
 
-read_told : (v : Version) (p : Pending) (l : ℕ) (x : Reading Kind) → kind_read v l x → kind_told v p l x
+read_told : (v : Version) (p : Option Kind) (l : ℕ) (x : Reading Kind) → kind_read v l x → kind_told v p l x
 read_told v p l (got k n) h = (h.0, λ _. h.1)
 read_told v p l runs_out h = tt
 read_told v p l (refused r) h = tt
 
-pub next_told_law : (v : Version) (p : Pending) (w : List ℕ) → kind_told v p (length w) (next_kind v p w)
+pub next_told_law : (v : Version) (p : Option Kind) (w : List ℕ) → kind_told v p (length w) (next_kind v p w)
 unfolding next_kind read_kind
-next_told_law v NoKind w = read_told v NoKind (length w) (after_number v w (read_int w 0)) (number_read v w (read_int w 0) refl)
-next_told_law v (Is k) w = (zero-le, λ g. g)
+next_told_law v None w = read_told v None (length w) (after_number v w (read_int w 0)) (number_read v w (read_int w 0) refl)
+next_told_law v (Some k) w = (zero-le, λ g. g)
 
 -- ---- records
 
@@ -117,9 +114,9 @@ payload_sort : (w : List ℕ) (p : Part) (k : Extension) (y : Payload) (next : �
 payload_sort w p k (shaped fs) next = upto_sort k next (read_fields fs (take next w) p.at)
 payload_sort w p k all_data next = refl
 
-found_sort : (w : List ℕ) (id p : Part) (f : Found) (next : ℕ) → RestSort kinds.Ex (of_found w id p f next)
-found_sort w id p (Known k) next = payload_sort w p k (payload_at k) next
-found_sort w id p Unknown next = refl
+found_sort : (w : List ℕ) (id p : Part) (f : Option Extension) (next : ℕ) → RestSort kinds.Ex (of_found w id p f next)
+found_sort w id p (Some k) next = payload_sort w p k (payload_at k) next
+found_sort w id p None next = refl
 
 data_sort : (w : List ℕ) (id : Part) (x : DataRead) → RestSort kinds.Ex (after_data w id x)
 data_sort w id (blobs.Got p next) = found_sort w id p (find (shown w id)) next
@@ -173,9 +170,9 @@ payload_in : (w : List ℕ) (p : Part) (k : Extension) (y : Payload) (next : ℕ
 payload_in w p k (shaped fs) next h = upto_in (length w) k next (read_fields fs (take next w) p.at) h
 payload_in w p k all_data next h = h
 
-found_in : (w : List ℕ) (id p : Part) (f : Found) (next : ℕ) → next ≤ length w → RestIn (length w) (of_found w id p f next)
-found_in w id p (Known k) next h = payload_in w p k (payload_at k) next h
-found_in w id p Unknown next h = h
+found_in : (w : List ℕ) (id p : Part) (f : Option Extension) (next : ℕ) → next ≤ length w → RestIn (length w) (of_found w id p f next)
+found_in w id p (Some k) next h = payload_in w p k (payload_at k) next h
+found_in w id p None next h = h
 
 data_in : (w : List ℕ) (at : ℕ) (id : Part) (x : DataRead) → read_data w at ≡ x → RestIn (length w) (after_data w id x)
 data_in w at id (blobs.Got p next) e = found_in w id p (find (shown w id)) next (data_taken w at next p e).within

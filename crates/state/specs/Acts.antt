@@ -1,7 +1,7 @@
 -- Laws: the acts of a reading call, all that a call on an open reader may do. Each has what holds before it, what it says and what it
 -- leaves. That every call is one of them is proved once (proofs/Acts.antt); a law of calls is then a clause for each act. docs/FORMAT.md, "Ticks
 -- and the board" and "What a call may say".
-use Rattle.std.specs.Prelude.{ℕ, ◌≡◌, Bool, true, false, List, drop, ltb, ℤ, pos, negsuc, ◌+ℤ◌, nat_abs}
+use Rattle.std.specs.Prelude.{ℕ, ◌≡◌, Bool, true, false, List, drop, ltb, ℤ, pos, negsuc, ◌+ℤ◌, nat_abs, Some, None}
 use Rattle.refusal.specs.declared.Refusal.{Refusal}
 use Rattle.refusal.specs.declared.Refusal.TheVariants.{
   UnexpectedEnd,
@@ -24,7 +24,6 @@ use Rattle.item.specs.Records.{Content, read_rest}
 use Rattle.item.specs.Contents.{cid_of}
 use Rattle.kinds.specs.declared.Kind.{Kind}
 use Rattle.kinds.specs.declared.Kind.TheVariants as kinds
-use Rattle.kinds.specs.declared.Cid.TheVariants.{Of, NoCid}
 use Rattle.state.specs.Sorts.{Change, Sort, sort_of}
 use Rattle.state.specs.Sorts as sorts
 use Rattle.state.specs.State.{Memory, with_entries, present, x_of, y_of, with_player, moved, holds, ten_of, with_input, good_reader}
@@ -34,7 +33,6 @@ use Rattle.state.specs.declared.Entries.{Entries}
 use Rattle.state.specs.declared.Standing.TheVariants.{Finished, Refused}
 use Rattle.state.specs.declared.Scalars.{Scalars}
 use Rattle.state.specs.declared.Reader.{Reader}
-use Rattle.state.specs.declared.Next.TheVariants.{Tick, Past}
 
 -- ---- what a call says and leaves, whatever ten numbers and former ten stood in the memory
 
@@ -125,8 +123,8 @@ pub data WhyPlain (s : Scalars) (w : List ℕ) (last : Bool) : Refusal → Type 
   kind_refused : {r : Refusal} → next_kind s.version s.pending w ≡ refused r → WhyPlain s w last r
   rest_refused : {r : Refusal} {k : Kind} {n : ℕ} → HadKind s w k n → MayRead s k → read_rest k w n ≡ refused r → WhyPlain s w last r
   ends_past : {k : Kind} {n : ℕ} {c : ℤ} → HadKind s w k n → PlayerKind k c → s.inside ≡ true → at_or_below c s.remembered ≡ true
-      → next_tick s.tick 0 ≡ Past → WhyPlain s w last TickOverflow
-  skips_past : {r : Content Part} {n : ℕ} → Had s w kinds.TickSkip r n → next_tick s.tick (nat_abs (first_of r)) ≡ Past
+      → next_tick s.tick 0 ≡ None → WhyPlain s w last TickOverflow
+  skips_past : {r : Content Part} {n : ℕ} → Had s w kinds.TickSkip r n → next_tick s.tick (nat_abs (first_of r)) ≡ None
       → WhyPlain s w last TickOverflow
 
 -- 8, 10, 14 and 15: a player record of client c was read
@@ -161,7 +159,7 @@ pub data Act (s : Scalars) (e : Entries) (w : List ℕ) (last : Bool) : (Memory 
   finishes : {c : Content Part} {n : ℕ} → Had s w kinds.Finish c n → s.inside ≡ false → Act s e w last (says (finish n) (closing Finished s) e)
   refuses_plain : (r : Refusal) → WhyPlain s w last r → Act s e w last (refuses r s e)
   refuses_player : (r : Refusal) (c : ℤ) → WhyPlayer s e w r c → Act s e w last (refuses r (naming c s) e)
-  refuses_input : (r : Refusal) (c : ℤ) → WhyInput s e w r c → Act s e w last (refuses r (raising (Of c) s) e)
+  refuses_input : (r : Refusal) (c : ℤ) → WhyInput s e w r c → Act s e w last (refuses r (raising (Some c) s) e)
   refuses13 : {c : ℕ} {r : Content Part} {n : ℕ} → Had s w (kinds.PlayerNew (pos c)) r n → MayCome s (pos c) → ltb c 128 ≡ true
       → present e c ≡ true
       → Act s e w last (refuses PlayerNewDuplicate (naming (pos c) s) (with_player e c 1 (first_of r) (second_of r)))
@@ -169,13 +167,13 @@ pub data Act (s : Scalars) (e : Entries) (w : List ℕ) (last : Bool) : (Memory 
   tick_starts : {k : Kind} {n : ℕ} → HadKind s w k n → wants_tick k ≡ true → s.inside ≡ false
       → Act s e w last (says (gives (tick_start s.tick) n) (starting k s) e)
   tick_ends : {k : Kind} {n : ℕ} {c t : ℤ} → HadKind s w k n → PlayerKind k c → s.inside ≡ true → at_or_below c s.remembered ≡ true
-      → next_tick s.tick 0 ≡ Tick t → Act s e w last (says (gives (tick_end s.tick) n) (ending t NoCid k s) e)
+      → next_tick s.tick 0 ≡ Some t → Act s e w last (says (gives (tick_end s.tick) n) (ending t None k s) e)
   last_tick_ends : {n : ℕ} → HadKind s w kinds.Finish n → s.inside ≡ true
       → Act s e w last (says (gives (tick_end s.tick) n) (ending s.tick s.remembered kinds.Finish s) e)
   skip_starts : {r : Content Part} {n : ℕ} {t : ℤ} → Had s w kinds.TickSkip r n → s.inside ≡ false
-      → next_tick s.tick (nat_abs (first_of r)) ≡ Tick t → Act s e w last (says (gives (tick_start t) n) (skipping t true s) e)
+      → next_tick s.tick (nat_abs (first_of r)) ≡ Some t → Act s e w last (says (gives (tick_start t) n) (skipping t true s) e)
   skip_ends : {r : Content Part} {n : ℕ} {t : ℤ} → Had s w kinds.TickSkip r n → s.inside ≡ true
-      → next_tick s.tick (nat_abs (first_of r)) ≡ Tick t → Act s e w last (says (gives (tick_end s.tick) n) (skipping t false s) e)
+      → next_tick s.tick (nat_abs (first_of r)) ≡ Some t → Act s e w last (says (gives (tick_end s.tick) n) (skipping t false s) e)
   -- a player comes, moves or leaves
   player_comes : {c : ℕ} {r : Content Part} {n : ℕ} → Had s w (kinds.PlayerNew (pos c)) r n → MayCome s (pos c) → ltb c 128 ≡ true
       → present e c ≡ false → Act s e w last
@@ -187,9 +185,9 @@ pub data Act (s : Scalars) (e : Entries) (w : List ℕ) (last : Bool) : (Memory 
       → Act s e w last (says (gives (player_old (pos c) (x_of e c) (y_of e c)) n) (naming (pos c) s) (with_player e c 0 (pos 0) (pos 0)))
   -- an input; any other record
   input_comes : {c : ℕ} {r : Content Part} {n : ℕ} → Had s w kinds.InputNew r n → s.inside ≡ true → first_of r ≡ pos c → ltb c 128 ≡ true
-      → Act s e w last (says_input c (holds e c) (others_of r) n (raising (Of (pos c)) s) e)
+      → Act s e w last (says_input c (holds e c) (others_of r) n (raising (Some (pos c)) s) e)
   input_moves : {c : ℕ} {r : Content Part} {n : ℕ} → Had s w kinds.InputDiff r n → s.inside ≡ true → first_of r ≡ pos c
-      → holds e c ≡ true → Act s e w last (says_input c true (sums (ten_of e.inputs c) (others_of r)) n (raising (Of (pos c)) s) e)
+      → holds e c ≡ true → Act s e w last (says_input c true (sums (ten_of e.inputs c) (others_of r)) n (raising (Some (pos c)) s) e)
   passes : {k : Kind} {r : Content Part} {n : ℕ} → Had s w k r n → OtherKind k → s.inside ≡ true
       → Act s e w last (says (gives (other r) n) (raising (cid_of r) s) e)
 

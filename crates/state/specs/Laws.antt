@@ -1,8 +1,7 @@
 -- What holds of a reading call, as statements; proofs/Theorems.antt proves each. docs/FORMAT.md, "What a call may say" and "Ticks and
 -- the board".
-use Rattle.std.specs.Prelude.{ℕ, ◌≤◌, ◌<◌, ◌≡◌, Bool, true, false, List, length, ℤ, pos}
+use Rattle.std.specs.Prelude.{ℕ, ◌≤◌, ◌<◌, ◌≡◌, Bool, true, false, List, length, ℤ, pos, None}
 use Rattle.item.specs.Said.{Said, gives, more, finish, refuses}
-use Rattle.kinds.specs.declared.Cid.TheVariants.{NoCid}
 use Rattle.kinds.specs.declared.Version.{Version}
 use Rattle.state.specs.State.{Memory, with_entries, with_player, good_entries, good_scalars, good_reader, empty_reader}
 use Rattle.state.specs.Reading.{
@@ -24,7 +23,6 @@ use Rattle.state.specs.Reading.{
   reader_after,
 }
 use Rattle.state.specs.declared.Entries.{Entries}
-use Rattle.state.specs.declared.Pending.TheVariants.{NoKind}
 use Rattle.state.specs.declared.Standing.TheVariants.{Open, Finished, Refused}
 use Rattle.state.specs.declared.Scalars.{Scalars}
 use Rattle.state.specs.declared.Reader.{Reader}
@@ -114,7 +112,7 @@ ReadersStaySound = (r : Reader) (w : List ℕ) (last : Bool) → Sound r → Sou
 
 -- an open reader outside a tick, with nothing pending, remembers no client; after finish one may be remembered
 abbrev pub ForgetsBetween : Scalars → Type 0
-ForgetsBetween s = s.standing ≡ Open → s.inside ≡ false → s.pending ≡ NoKind → s.remembered ≡ NoCid
+ForgetsBetween s = s.standing ≡ Open → s.inside ≡ false → s.pending ≡ None → s.remembered ≡ None
 
 -- a call keeps it so
 abbrev pub ReadersForgetBetween : Type 0

@@ -1,5 +1,5 @@
 -- One reading call: what it says, and what it leaves. docs/FORMAT.md, "Ticks and the board" (rules 1 to 7) and "What a call may say".
-use Rattle.std.specs.Prelude.{ℕ, ◌+◌, Bool, true, false, not, cond, List, map, get_or, drop, ltb, ℤ, pos, negsuc, ◌+ℤ◌, nat_abs}
+use Rattle.std.specs.Prelude.{ℕ, ◌+◌, Bool, true, false, not, cond, List, map, get_or, drop, ltb, ℤ, pos, negsuc, ◌+ℤ◌, nat_abs, Option, Some, None}
 use Rattle.std.specs.Int.Signed.{lt_z}
 use Rattle.refusal.specs.declared.Refusal.{Refusal}
 use Rattle.refusal.specs.declared.Refusal.TheVariants.{
@@ -24,8 +24,6 @@ use Rattle.item.specs.Records.{Content, read_rest}
 use Rattle.item.specs.Contents.{cid_of}
 use Rattle.kinds.specs.declared.Version.{Version}
 use Rattle.kinds.specs.declared.Kind.{Kind}
-use Rattle.kinds.specs.declared.Cid.{Cid}
-use Rattle.kinds.specs.declared.Cid.TheVariants.{Of, NoCid}
 use Rattle.state.specs.Sorts.{Sort, sort_of, tag_sort}
 use Rattle.state.specs.Sorts as sorts
 use Rattle.state.specs.State.{
@@ -45,14 +43,10 @@ use Rattle.state.specs.State.{
   good_reader,
   scalars_of,
 }
-use Rattle.state.specs.declared.Pending.{Pending}
-use Rattle.state.specs.declared.Pending.TheVariants.{Is, NoKind}
 use Rattle.state.specs.declared.Standing.{Standing}
 use Rattle.state.specs.declared.Standing.TheVariants.{Open, Finished, Refused}
 use Rattle.state.specs.declared.Scalars.{Scalars}
 use Rattle.state.specs.declared.Reader.{Reader}
-use Rattle.state.specs.declared.Next.{Next}
-use Rattle.state.specs.declared.Next.TheVariants.{Tick, Past}
 use Rattle.state.specs.declared.Rule.{Rule}
 use Rattle.state.specs.declared.Rule.TheVariants.{Reads, Starts, Ends, EndsHere, Over}
 
@@ -79,7 +73,7 @@ step_of a s m = record { said = a; scalars = s; memory = m }
 -- ---- the scalars
 
 -- the scalars that a call leaves; the version stays
-abbrev pub turned : Scalars → ℤ → Bool → Cid → ℤ → Pending → Standing → Scalars
+abbrev pub turned : Scalars → ℤ → Bool → Option ℤ → ℤ → Option Kind → Standing → Scalars
 turned s t i p m k c = scalars_of s.version t i p m k c
 
 -- finish and a refusal close a reader, each by its own mark
@@ -90,30 +84,30 @@ is_closed Refused = true
 
 -- after a refusal or finish: closed by it, with nothing pending
 unfoldable pub closing : Standing → Scalars → Scalars
-closing by s = turned s s.tick s.inside s.remembered s.largest NoKind by
+closing by s = turned s s.tick s.inside s.remembered s.largest None by
 
-abbrev pub raised_to : ℤ → Cid → ℤ
-raised_to m (Of c) = larger m c
-raised_to m NoCid = m
+abbrev pub raised_to : ℤ → Option ℤ → ℤ
+raised_to m (Some c) = larger m c
+raised_to m None = m
 
 -- after a record: nothing is pending, and the largest client has risen to the record's
-unfoldable pub raising : Cid → Scalars → Scalars
-raising c s = turned s s.tick s.inside s.remembered (raised_to s.largest c) NoKind s.standing
+unfoldable pub raising : Option ℤ → Scalars → Scalars
+raising c s = turned s s.tick s.inside s.remembered (raised_to s.largest c) None s.standing
 
 -- after a player record of the client c, which is remembered too
 unfoldable pub naming : ℤ → Scalars → Scalars
-naming c s = turned s s.tick s.inside (Of c) (larger s.largest c) NoKind s.standing
+naming c s = turned s s.tick s.inside (Some c) (larger s.largest c) None s.standing
 
 -- at the start or the end of a tick the kind is pending
 unfoldable pub starting : Kind → Scalars → Scalars
-starting k s = turned s s.tick true s.remembered s.largest (Is k) s.standing
+starting k s = turned s s.tick true s.remembered s.largest (Some k) s.standing
 
-unfoldable pub ending : ℤ → Cid → Kind → Scalars → Scalars
-ending t p k s = turned s t false p s.largest (Is k) s.standing
+unfoldable pub ending : ℤ → Option ℤ → Kind → Scalars → Scalars
+ending t p k s = turned s t false p s.largest (Some k) s.standing
 
 -- after a TickSkip nothing is pending, and no client is remembered
 unfoldable pub skipping : ℤ → Bool → Scalars → Scalars
-skipping t i s = turned s t i NoCid s.largest NoKind s.standing
+skipping t i s = turned s t i None s.largest None s.standing
 
 unfoldable pub refusal_step : Refusal → Scalars → Memory → Step
 refusal_step r s m = step_of (refusing r) (closing Refused s) m
@@ -124,14 +118,14 @@ out_of true s m = refusal_step UnexpectedEnd s m
 out_of false s m = step_of more s m
 
 -- k + 1 ticks on, unless that passes 2147483647; a tick below 0 is no good reader's
-unfoldable pub next_tick : ℤ → ℕ → Next
-next_tick (pos t) k = cond (ltb 2147483647 (t + k + 1)) Past (Tick (pos (t + k + 1)))
-next_tick (negsuc t) k = Past
+unfoldable pub next_tick : ℤ → ℕ → Option ℤ
+next_tick (pos t) k = cond (ltb 2147483647 (t + k + 1)) None (Some (pos (t + k + 1)))
+next_tick (negsuc t) k = None
 
 -- by the next tick: what go says of it, or over
-abbrev pub if_tick : {A : Type 0} → (ℤ → A) → A → Next → A
-if_tick go over (Tick t) = go t
-if_tick go over Past = over
+abbrev pub if_tick : {A : Type 0} → (ℤ → A) → A → Option ℤ → A
+if_tick go over (Some t) = go t
+if_tick go over None = over
 
 -- ---- a record on a reader; n bytes are used
 
@@ -205,8 +199,8 @@ abbrev pub apply_sort : Sort → Scalars → Memory → Content Part → List �
 apply_sort (sorts.player sorts.moves cid) s m c zs n = player_diff (naming cid s) m cid (first zs) (second zs) n
 apply_sort (sorts.player sorts.comes cid) s m c zs n = new_player (naming cid s) m cid (first zs) (second zs) n
 apply_sort (sorts.player sorts.leaves cid) s m c zs n = old_player (naming cid s) m cid n
-apply_sort (sorts.input true) s m c zs n = input_new (raising (Of (first zs)) s) m (first zs) (drop 1 zs) n
-apply_sort (sorts.input false) s m c zs n = input_diff (raising (Of (first zs)) s) m (first zs) (drop 1 zs) n
+apply_sort (sorts.input true) s m c zs n = input_new (raising (Some (first zs)) s) m (first zs) (drop 1 zs) n
+apply_sort (sorts.input false) s m c zs n = input_diff (raising (Some (first zs)) s) m (first zs) (drop 1 zs) n
 apply_sort sorts.skip s m c zs n = tick_skip s m (nat_abs (first zs)) n
 apply_sort sorts.finish s m c zs n = step_of (finish n) (closing Finished s) m
 apply_sort (sorts.other ex) s m c zs n = step_of (gives (other c) n) (raising (cid_of c) s) m
@@ -216,9 +210,9 @@ apply s m c n = apply_sort (tag_sort c.tag) s m c (numbers c.values) n
 
 -- ---- the tick rules (2 to 4)
 
-abbrev pub at_or_below : ℤ → Cid → Bool
-at_or_below c NoCid = false
-at_or_below c (Of p) = not (lt_z p c)
+abbrev pub at_or_below : ℤ → Option ℤ → Bool
+at_or_below c None = false
+at_or_below c (Some p) = not (lt_z p c)
 
 -- a player's client at or below the remembered one ends the tick
 unfoldable pub player_rule : Scalars → ℤ → Rule
@@ -250,14 +244,14 @@ if_read s m last go (refused r) = refusal_step r s m
 abbrev pub with_rule : Scalars → Memory → List ℕ → Bool → Kind → ℕ → Rule → Step
 with_rule s m w last k n Reads = if_read s m last (apply s m) (read_rest k w n)
 with_rule s m w last k n Starts = step_of (gives (tick_start s.tick) n) (starting k s) m
-with_rule s m w last k n (Ends t) = step_of (gives (tick_end s.tick) n) (ending t NoCid k s) m
+with_rule s m w last k n (Ends t) = step_of (gives (tick_end s.tick) n) (ending t None k s) m
 with_rule s m w last k n EndsHere = step_of (gives (tick_end s.tick) n) (ending s.tick s.remembered k s) m
 with_rule s m w last k n Over = refusal_step TickOverflow s m
 
 -- rule 1: the pending kind is taken, else a kind is read
-unfoldable pub next_kind : Version → Pending → List ℕ → Reading Kind
-next_kind v NoKind w = read_kind v w 0
-next_kind v (Is k) w = got k 0
+unfoldable pub next_kind : Version → Option Kind → List ℕ → Reading Kind
+next_kind v None w = read_kind v w 0
+next_kind v (Some k) w = got k 0
 
 -- a call on an open reader
 unfoldable pub open_call : Scalars → Memory → List ℕ → Bool → Step

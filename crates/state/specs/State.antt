@@ -1,15 +1,12 @@
 -- Reader and board: what they hold, the empty ones, which are good (refusal 17 for the others). docs/FORMAT.md, "Ticks and the board".
-use Rattle.std.specs.Prelude.{ℕ, zero, suc, ◌+◌, ◌*◌, Bool, true, false, cond, ◌&&◌, List, [], ◌∷◌, map, get_or, set, replicate, ltb, eqb, ℤ, pos, negsuc}
+use Rattle.std.specs.Prelude.{ℕ, zero, suc, ◌+◌, ◌*◌, Bool, true, false, cond, ◌&&◌, List, [], ◌∷◌, map, get_or, set, replicate, ltb, eqb, ℤ, pos, negsuc, Option, Some, None}
 use Rattle.std.specs.Int.Signed.{le_z, lt_z, non_neg}
+use Rattle.kinds.specs.declared.Kind.{Kind}
 use Rattle.fields.specs.Views.{zeros}
 pub use Rattle.kinds.specs.Kinds.{has_ex}
 use Rattle.kinds.specs.declared.Version.{Version}
-use Rattle.kinds.specs.declared.Cid.{Cid}
-use Rattle.kinds.specs.declared.Cid.TheVariants.{NoCid}
 use Rattle.state.specs.Sorts.{Sort, sort_of}
 use Rattle.state.specs.Sorts as sorts
-use Rattle.state.specs.declared.Pending.{Pending}
-use Rattle.state.specs.declared.Pending.TheVariants.{Is, NoKind}
 use Rattle.state.specs.declared.Entries.{Entries}
 use Rattle.state.specs.declared.Standing.{Standing}
 use Rattle.state.specs.declared.Standing.TheVariants.{Open}
@@ -116,9 +113,9 @@ good_sort v sorts.skip = true
 good_sort v sorts.finish = true
 good_sort v (sorts.other ex) = cond ex (has_ex v) true
 
-abbrev pub good_pending : Version → Pending → Bool
-good_pending v NoKind = true
-good_pending v (Is k) = good_sort v (sort_of k)
+abbrev pub good_pending : Version → Option Kind → Bool
+good_pending v None = true
+good_pending v (Some k) = good_sort v (sort_of k)
 
 unfoldable pub good_scalars : Scalars → Bool
 good_scalars s =
@@ -136,10 +133,10 @@ unfoldable pub no_entries : Entries
 no_entries = entries_with (replicate {A = ℕ} 128 0) (zeros 128) (zeros 128) (replicate {A = ℕ} 128 0) (zeros 1280)
 
 -- all the scalars: version, tick, whether inside it, the remembered client, the largest client, the pending kind, whether it reads on
-abbrev pub scalars_of : Version → ℤ → Bool → Cid → ℤ → Pending → Standing → Scalars
+abbrev pub scalars_of : Version → ℤ → Bool → Option ℤ → ℤ → Option Kind → Standing → Scalars
 scalars_of v t i p m k c =
     record { version = v; tick = t; inside = i; remembered = p; largest = m; pending = k; standing = c }
 
 -- tick 0, outside a tick, no remembered client, largest client -1, no pending kind, open, nobody present
 unfoldable pub empty_reader : Version → Reader
-empty_reader v = reader_with (scalars_of v (pos 0) false NoCid (negsuc 0) NoKind Open) no_entries
+empty_reader v = reader_with (scalars_of v (pos 0) false None (negsuc 0) None Open) no_entries

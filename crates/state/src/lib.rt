@@ -6,15 +6,8 @@ ghost use Rattle.state.specs.State.{empty_reader};
 ghost use Rattle.state.specs.Reading.{is_closed};
 
 use item::Item;
-use kinds::{Cid, Kind, Version};
+use kinds::{Kind, Version};
 use refusal::Refusal;
-
-// The kind that was read and whose record was not, or none.
-#[derive(Clone, Copy)]
-pub enum Pending {
-    Is(Kind),
-    NoKind,
-}
 
 // The entries of clients 0 to 127: marks are 0 or 1, and an entry whose mark is 0 holds zeros; ten input numbers each.
 #[derive(Clone, Copy)]
@@ -51,9 +44,9 @@ pub struct Scalars {
     pub version: Version,
     pub tick: i32,
     pub inside: bool,
-    pub remembered: Cid,
+    pub remembered: Option<i32>,
     pub largest: i32,
-    pub pending: Pending,
+    pub pending: Option<Kind>,
     pub standing: Standing,
 }
 
@@ -73,9 +66,9 @@ impl Reader {
                 version,
                 tick: 0,
                 inside: false,
-                remembered: Cid::NoCid,
+                remembered: None,
                 largest: -1,
-                pending: Pending::NoKind,
+                pending: None,
                 standing: Standing::Open,
             },
             entries: Entries {
@@ -142,11 +135,4 @@ pub enum Rule {
     Ends(i32),
     EndsHere,
     Over,
-}
-
-// A tick, or that it would pass the last.
-#[derive(Clone, Copy)]
-pub enum Next {
-    Tick(i32),
-    Past,
 }

@@ -2,7 +2,7 @@
 use crate::{left, say};
 use state::{Answer, Entries, Reader, Scalars};
 use team_reading::{TeamOutcome, TeamRead};
-use teams::{Team, TeamReader};
+use teams::TeamReader;
 
 // Which answer it is, and the bytes used or the number of the refusal.
 fn numbers_of(answer: Answer) -> [usize; 2] {
@@ -20,7 +20,7 @@ fn same_answer(a: Answer, b: Answer) -> bool {
     (one[0] == other[0]) & (one[1] == other[1])
 }
 
-fn same_team(a: Team, b: Team) -> bool {
+fn same_team(a: Option<i32>, b: Option<i32>) -> bool {
     (teams::mark_for(a) == teams::mark_for(b)) & (teams::number_for(a) == teams::number_for(b))
 }
 

@@ -14,11 +14,11 @@ mod beside;
 
 use crate::beside::{hold_lent, hold_plain};
 use item::Item;
-use kinds::{Cid, Version};
+use kinds::Version;
 use state::{Answer, Event, Reader, Scalars};
 use team_reading::TeamRead;
-use teams::{Team, TeamReader};
-use texts::{Text, Used};
+use teams::TeamReader;
+use texts::Text;
 
 const STDOUT_FILENO: i32 = 1;
 
@@ -63,7 +63,7 @@ fn read(reader: TeamReader, last: bool) {
     let answer = plain.answer;
     let input = plain.input;
     hold_lent(reader, window, last, got);
-    if let Used::Bytes(_) = texts::used_in(answer) {
+    if let Some(_) = texts::used_in(answer) {
         say(b" event\n");
         return;
     }
@@ -79,15 +79,15 @@ fn reader_case(s: &[u8]) {
     read(reader, standing.is_closed());
 }
 
-fn say_team(word: &[u8], team: Team, none: &[u8]) {
+fn say_team(word: &[u8], team: Option<i32>, none: &[u8]) {
     match team {
-        Team::Number(n) => print(texts::plain(word, &[n])),
-        Team::NoTeam => say(none),
+        Some(n) => print(texts::plain(word, &[n])),
+        None => say(none),
     }
 }
 
 // Of a PlayerTeam its client, its team and the former one.
-fn say_joining(event: Event, former: Team) {
+fn say_joining(event: Event, former: Option<i32>) {
     let Event::Record(item) = event else {
         say_elsewhere(former);
         return;
@@ -101,8 +101,8 @@ fn say_joining(event: Event, former: Team) {
 }
 
 // Beside what is no PlayerTeam.
-fn say_elsewhere(former: Team) {
-    if let Team::Number(_) = former {
+fn say_elsewhere(former: Option<i32>) {
+    if let Some(_) = former {
         say(b"a former team beside another answer\n");
     }
 }
@@ -139,7 +139,7 @@ fn ended(given: TeamReader, body: &[u8]) -> TeamReader {
         let answer = plain.answer;
         tell(got);
         reader = left(got);
-        let Used::Bytes(used) = texts::used_in(answer) else {
+        let Some(used) = texts::used_in(answer) else {
             return reader;
         };
         at = cases::past(at, used, body.len());
@@ -191,7 +191,7 @@ fn remembering(reader: Reader, cid: i32) -> Reader {
         version,
         tick: s.tick,
         inside: s.inside,
-        remembered: Cid::Of(cid),
+        remembered: Some(cid),
         largest: s.largest,
         pending,
         standing,
@@ -200,8 +200,8 @@ fn remembering(reader: Reader, cid: i32) -> Reader {
 }
 
 // What became of the client that was remembered.
-fn say_client(was: i32, now: Cid) {
-    let Cid::Of(cid) = now else {
+fn say_client(was: i32, now: Option<i32>) {
+    let Some(cid) = now else {
         say(b" forgotten");
         return;
     };

@@ -8,14 +8,14 @@ ghost use Rattle.state.specs.Reading.{next_kind, with_rule, open_call, good_call
 ghost use Rattle.state.specs.Slim.{slim_step};
 ghost use Rattle.state.specs.steps.Inside.{memory, done};
 
-use kinds::{Cid, Kind, KindRead, Version};
+use kinds::{Kind, KindRead, Version};
 use refusal::Refusal;
-use state::{Answer, Event, Outcome, Pending, Rule, Scalars};
+use state::{Answer, Event, Outcome, Rule, Scalars};
 
-pub fn next_kind(version: Version, pending: Pending, w: &[u8]) -> KindRead
+pub fn next_kind(version: Version, pending: Option<Kind>, w: &[u8]) -> KindRead
     ensures { kind_is result ≡ next_kind version pending w.now }
 {
-    let Pending::Is(kind) = pending else {
+    let Some(kind) = pending else {
         return kinds::read_kind(version, w, 0);
     };
     KindRead::Got { kind, next: 0 }
@@ -47,11 +47,7 @@ fn with_rule(
             s, marks, xs, ys, held, inputs, input, former, kind, w, at, last,
         ),
         Rule::Starts => ticks::gave(Event::TickStart(tick), at, ticks::started(s, kind)),
-        Rule::Ends(t) => ticks::gave(
-            Event::TickEnd(tick),
-            at,
-            ticks::ended(s, t, Cid::NoCid, kind),
-        ),
+        Rule::Ends(t) => ticks::gave(Event::TickEnd(tick), at, ticks::ended(s, t, None, kind)),
         Rule::EndsHere => ticks::gave(
             Event::TickEnd(tick),
             at,

@@ -1,4 +1,5 @@
 -- A step back is handed back whole from what was taken off: a refusal of an event is 19. The test of the board. Assumes nothing.
+use Rattle.std.specs.Prelude.{Option, Some, None}
 use Prim.Native.Nat.{ℕ}
 use mathlib.Core.Path.{◌≡◌, refl}
 use mathlib.Core.Bool.{Bool, true, false, not, cond, ◌&&◌}
@@ -20,7 +21,6 @@ use Rattle.state.specs.Reading.{
 }
 use Rattle.state.specs.declared.Entries.{Entries}
 use Rattle.teams.specs.Teams.{good_teams, joining_of}
-use Rattle.teams.specs.declared.Team.{Team}
 use Rattle.back.specs.Board.{board, good_tick, good_board}
 use Rattle.back.specs.Back.{
   Back,
@@ -43,8 +43,6 @@ use Rattle.back.specs.TeamBoard.{
   team_step_back,
   stepped_from,
 }
-use Rattle.back.specs.declared.BoardTick.{BoardTick}
-use Rattle.back.specs.declared.BoardTick.TheVariants.{In, NoTick}
 use Rattle.back.specs.declared.Board.{Board}
 use Rattle.back.specs.declared.TeamBoard.{TeamBoard}
 use Rattle.back.specs.declared.BackAnswer.TheVariants as answers
@@ -72,32 +70,32 @@ module _ (given : TeamBoard) (l : List ℤ) where
   module _ (t : ℤ) (e : Entries) where
     whole_present : (z x y : ℤ) (mark : ℕ) (old-x old-y : ℤ) → Whole (un_present t e z x y mark old-x old-y)
     whole_present (pos c) x y mark old-x old-y =
-        tested (present e c && (same_int (x_of e c) x && same_int (y_of e c) y)) (board (In t) (with_player e c mark old-x old-y))
+        tested (present e c && (same_int (x_of e c) x && same_int (y_of e c) y)) (board (Some t) (with_player e c mark old-x old-y))
     whole_present (negsuc c) x y mark old-x old-y = refl
 
     whole_old : (z x y : ℤ) → Whole (un_old t e z x y)
-    whole_old (pos c) x y = tested (ltb c 128 && not (present e c)) (board (In t) (with_player e c 1 x y))
+    whole_old (pos c) x y = tested (ltb c 128 && not (present e c)) (board (Some t) (with_player e c 1 x y))
     whole_old (negsuc c) x y = refl
 
     whole_input : (z : ℤ) (had : Bool) (ten former : List ℤ) → Whole (un_input t e z had ten former)
-    whole_input (pos c) had ten former = tested (holds e c && same_all (ten_of e.inputs c) ten) (board (In t) (former_input e c had former))
+    whole_input (pos c) had ten former = tested (holds e c && same_all (ten_of e.inputs c) ten) (board (Some t) (former_input e c had former))
     whole_input (negsuc c) had ten former = refl
 
-  whole : (u : Event) (ten former : List ℤ) (k : BoardTick) (e : Entries) → Whole (take_off u ten former k e)
-  whole (tick_start u) ten former (In t) e = tested (same_int t u) (board NoTick e)
-  whole (tick_start u) ten former NoTick e = refl
-  whole (tick_end u) ten former (In t) e = refl
-  whole (tick_end u) ten former NoTick e = tested (non_neg u) (board (In u) e)
-  whole (player_new c x y) ten former (In t) e = whole_present t e c x y 0 (pos 0) (pos 0)
-  whole (player_new c x y) ten former NoTick e = refl
-  whole (player_change c x y old-x old-y) ten former (In t) e = whole_present t e c x y 1 old-x old-y
-  whole (player_change c x y old-x old-y) ten former NoTick e = refl
-  whole (player_old c x y) ten former (In t) e = whole_old t e c x y
-  whole (player_old c x y) ten former NoTick e = refl
-  whole (input c had) ten former (In t) e = whole_input t e c had ten former
-  whole (input c had) ten former NoTick e = refl
-  whole (other r) ten former (In t) e = refl
-  whole (other r) ten former NoTick e = refl
+  whole : (u : Event) (ten former : List ℤ) (k : Option ℤ) (e : Entries) → Whole (take_off u ten former k e)
+  whole (tick_start u) ten former (Some t) e = tested (same_int t u) (board None e)
+  whole (tick_start u) ten former None e = refl
+  whole (tick_end u) ten former (Some t) e = refl
+  whole (tick_end u) ten former None e = tested (non_neg u) (board (Some u) e)
+  whole (player_new c x y) ten former (Some t) e = whole_present t e c x y 0 (pos 0) (pos 0)
+  whole (player_new c x y) ten former None e = refl
+  whole (player_change c x y old-x old-y) ten former (Some t) e = whole_present t e c x y 1 old-x old-y
+  whole (player_change c x y old-x old-y) ten former None e = refl
+  whole (player_old c x y) ten former (Some t) e = whole_old t e c x y
+  whole (player_old c x y) ten former None e = refl
+  whole (input c had) ten former (Some t) e = whole_input t e c had ten former
+  whole (input c had) ten former None e = refl
+  whole (other r) ten former (Some t) e = refl
+  whole (other r) ten former None e = refl
 
 one_of : (given : TeamBoard) (fits : Bool) (a : TeamBack) → One given a → One given (cond fits a (refused NotLast))
 one_of given true a p = p
@@ -112,7 +110,7 @@ pub good_is : (b : TeamBoard) (t e s g h : Bool)
 unfolding good_team_board good_board
 good_is b t e s g h p q r o w = rw (w, r, o, p, q)
 
-module _ (b : TeamBoard) (u : Event) (ten former : List ℤ) (m : Team) (g : Bool) (q : g ≡ good_team_board b) where
+module _ (b : TeamBoard) (u : Event) (ten former : List ℤ) (m : Option ℤ) (g : Bool) (q : g ≡ good_team_board b) where
   pub bad : g ≡ false → refused BadState ≡ team_step_back b u ten former m
   unfolding team_step_back
   bad n = rw (← q, n)

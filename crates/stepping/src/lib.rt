@@ -9,17 +9,16 @@ ghost use Rattle.back.specs.TeamBoard.{refused, team_board, team_step_back, step
 ghost use Rattle.back.specs.Undo.{undone, former_in};
 ghost use Rattle.back.specs.declared.BackAnswer.TheVariants as answers;
 
-use back::{BackAnswer, Board, BoardTick, SteppedBack, TeamBoard, Undo};
+use back::{BackAnswer, Board, SteppedBack, TeamBoard, Undo};
 use refusal::Refusal;
 use state::{Entries, Event};
 use taking::Off;
-use teams::Team;
 
 // Whether a board's tick is not refused 17.
-pub fn good_tick(tick: BoardTick) -> bool
+pub fn good_tick(tick: Option<i32>) -> bool
     ensures { result ≡ good_tick tick }
 {
-    let BoardTick::In(t) = tick else {
+    let Some(t) = tick else {
         return true;
     };
     compare::not_negative(t)
@@ -100,7 +99,7 @@ pub fn step_back(
     event: Event,
     input: [i32; 10],
     former: [i32; 10],
-    team: Team,
+    team: Option<i32>,
 ) -> SteppedBack
     ensures { result ≡ stepped_from board (team_step_back board (event_is event) input former team) }
 {

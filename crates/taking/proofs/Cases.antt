@@ -1,5 +1,6 @@
 -- What a call leaves where an event fits and where it doesn't; the events of a client by the tests that the code makes (b is the client's
 -- bits). Assumes nothing.
+use Rattle.std.specs.Prelude.{Option, Some}
 use Prim.Native.Nat.{ℕ, ◌≤◌, ◌<◌}
 use mathlib.Core.Path.{◌≡◌, refl, ap, ◌∙◌}
 use mathlib.Core.Bool.{Bool, true, false, cond, ◌&&◌}
@@ -18,37 +19,35 @@ use Rattle.state.specs.declared.Entries.{Entries}
 use Rattle.state.proofs.Numbers.{back, client_is}
 use Rattle.back.specs.Board.{board}
 use Rattle.back.specs.Back.{Back, was, refused, same_all, un_present, un_old, un_input}
-use Rattle.back.specs.declared.BoardTick.{BoardTick}
-use Rattle.back.specs.declared.BoardTick.TheVariants.{In}
 use Rattle.back.specs.declared.Board.{Board}
 use Rattle.taking.specs.Taking.{taken_from, taken_is}
 use Rattle.taking.specs.declared.Off.{Off}
 
 -- ---- fits or not: k is the tick that is left, e are the entries
 
-abbrev pub Left : Bool → BoardTick → Off → Type 0
+abbrev pub Left : Bool → Option ℤ → Off → Type 0
 Left fits k r = r ≡ record { fits = fits; tick = k }
 
-pub unfit : {k : BoardTick} {r : Off} {a : Back} (e : Entries) → Left false k r → refused NotLast ≡ a
+pub unfit : {k : Option ℤ} {r : Off} {a : Back} (e : Entries) → Left false k r → refused NotLast ≡ a
     → taken_is r e ≡ taken_from (board k e) a
 unfit {k} e p q = ap (λ (r : Off). taken_is r e) p ∙ ap (taken_from (board k e)) q
 
-pub fitting : {k : BoardTick} {r : Off} {a : Back} (given : Board) (e : Entries) → Left true k r → was (board k e) ≡ a
+pub fitting : {k : Option ℤ} {r : Off} {a : Back} (given : Board) (e : Entries) → Left true k r → was (board k e) ≡ a
     → taken_is r e ≡ taken_from given a
 fitting given e p q = ap (λ (r : Off). taken_is r e) p ∙ ap (taken_from given) q
 
 -- in tick t
 abbrev pub LeftIn : Bool → ℤ → Off → Type 0
-LeftIn fits t r = Left fits (In (to_z w32 (of_z w32 t))) r
+LeftIn fits t r = Left fits (Some (to_z w32 (of_z w32 t))) r
 
-pub left_in : {fits : Bool} {t : ℤ} {r : Off} → SFits w32 t → LeftIn fits t r → Left fits (In t) r
+pub left_in : {fits : Bool} {t : ℤ} {r : Off} → SFits w32 t → LeftIn fits t r → Left fits (Some t) r
 left_in {fits} {t} f p = rw (back t f) at p
 
 pub unfit_in : {t : ℤ} {r : Off} {a : Back} (e : Entries) → SFits w32 t → LeftIn false t r → refused NotLast ≡ a
-    → taken_is r e ≡ taken_from (board (In t) e) a
+    → taken_is r e ≡ taken_from (board (Some t) e) a
 unfit_in e f p q = unfit e (left_in f p) q
 
-pub fitting_in : {t : ℤ} {r : Off} {a : Back} (given : Board) (e : Entries) → SFits w32 t → LeftIn true t r → was (board (In t) e) ≡ a
+pub fitting_in : {t : ℤ} {r : Off} {a : Back} (given : Board) (e : Entries) → SFits w32 t → LeftIn true t r → was (board (Some t) e) ≡ a
     → taken_is r e ≡ taken_from given a
 fitting_in given e f p q = fitting given e (left_in f p) q
 
@@ -83,19 +82,19 @@ module _ (t : ℤ) (e : Entries) (z : ℤ) (b : ℕ) (f : SFits w32 z) (q : b �
   present_away x y mark old-x old-y p = rw (client_is z b f q h, lt-ltb b 128 h, p)
 
   pub present_here : (x y : ℤ) (mark : ℕ) (old-x old-y : ℤ) → at_position e b x y ≡ true
-      → was (board (In t) (with_player e b mark old-x old-y)) ≡ un_present t e z x y mark old-x old-y
+      → was (board (Some t) (with_player e b mark old-x old-y)) ≡ un_present t e z x y mark old-x old-y
   present_here x y mark old-x old-y p = rw (client_is z b f q h, lt-ltb b 128 h, p)
 
   pub old_here : (x y : ℤ) → eqb (get_or e.marks b 0) 1 ≡ true → refused NotLast ≡ un_old t e z x y
   old_here x y p = rw (client_is z b f q h, lt-ltb b 128 h, p)
 
-  pub old_away : (x y : ℤ) → eqb (get_or e.marks b 0) 1 ≡ false → was (board (In t) (with_player e b 1 x y)) ≡ un_old t e z x y
+  pub old_away : (x y : ℤ) → eqb (get_or e.marks b 0) 1 ≡ false → was (board (Some t) (with_player e b 1 x y)) ≡ un_old t e z x y
   old_away x y p = rw (client_is z b f q h, lt-ltb b 128 h, p)
 
   pub input_away : (had : Bool) (ten former : List ℤ) → has_ten e b ten ≡ false → refused NotLast ≡ un_input t e z had ten former
   input_away had ten former p = rw (client_is z b f q h, lt-ltb b 128 h, p)
 
   pub input_here : (had : Bool) (ten former : List ℤ) → has_ten e b ten ≡ true
-      → was (board (In t) (with_input e b (cond had 1 0) (cond had former (zeros 10)))) ≡ un_input t e z had ten former
+      → was (board (Some t) (with_input e b (cond had 1 0) (cond had former (zeros 10)))) ≡ un_input t e z had ten former
   input_here true ten former p = rw (client_is z b f q h, lt-ltb b 128 h, p)
   input_here false ten former p = rw (client_is z b f q h, lt-ltb b 128 h, p)

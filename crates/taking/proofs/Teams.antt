@@ -1,5 +1,6 @@
 -- A PlayerTeam's client among the teams by the tests that the code makes (b is the client's bits); what a call leaves of a board with
 -- teams, of what it leaves of one without. Assumes nothing.
+use Rattle.std.specs.Prelude.{Option, Some, None}
 use Prim.Native.Nat.{ℕ, ◌≤◌, ◌<◌}
 use mathlib.Core.Path.{◌≡◌, refl, sym, ap, ◌∙◌}
 use mathlib.Core.Bool.{Bool, true, false, cond, ◌&&◌, false≢true}
@@ -16,13 +17,10 @@ use Rattle.state.specs.Reading.{Event}
 use Rattle.state.specs.declared.Entries.{Entries}
 use Rattle.state.proofs.Numbers.{picks_first, picks_second, client_is}
 use Rattle.teams.specs.Teams.{number_of, has_team, team_of, is_in, mark_for, number_for, joins, joining_of}
-use Rattle.teams.specs.declared.Team.{Team}
-use Rattle.teams.specs.declared.Team.TheVariants.{Number, NoTeam}
 use Rattle.back.specs.Board.{board}
 use Rattle.back.specs.Back.{Back, was, refused, take_off}
 use Rattle.back.specs.TeamBoard.{TeamBack, team_board, beside, fits_teams, teams_before, take_off_team}
 use Rattle.back.specs.TeamBoard as teamed
-use Rattle.back.specs.declared.BoardTick.{BoardTick}
 use Rattle.taking.specs.Taking.{Taken, taken_from, taken_is, TeamTaken, team_taken_from, team_taken_is}
 use Rattle.taking.specs.declared.Off.{Off}
 use Rattle.taking.proofs.Cases.{Left}
@@ -33,13 +31,13 @@ pub in_far : (t : List ℤ) (z n : ℤ) (b : ℕ) → b ≡ of_z w32 z → 128 �
 in_far t (pos c) n b q h = picks_second (ltb c 128) (is_in t c n) true (le-ltb c 128 (omega arith))
 in_far t (negsuc c) n b q h = refl
 
-no_team : (has : Bool) (x n : ℤ) → NoTeam ≡ cond has (Number x) NoTeam → false ≡ (has && same_int x n)
-no_team true x n e = absurd (false≢true (ap (λ (m : Team). same_int (mark_for m) (pos 1)) e))
+no_team : (has : Bool) (x n : ℤ) → None ≡ cond has (Some x) None → false ≡ (has && same_int x n)
+no_team true x n e = absurd (false≢true (ap (λ (m : Option ℤ). same_int (mark_for m) (pos 1)) e))
 no_team false x n e = refl
 
-a_team : (has : Bool) (x k n : ℤ) → Number k ≡ cond has (Number x) NoTeam → same_int k n ≡ (has && same_int x n)
-a_team true x k n e = ap (λ (m : Team). same_int (number_for m) n) e
-a_team false x k n e = absurd (false≢true (sym (ap (λ (m : Team). same_int (mark_for m) (pos 1)) e)))
+a_team : (has : Bool) (x k n : ℤ) → Some k ≡ cond has (Some x) None → same_int k n ≡ (has && same_int x n)
+a_team true x k n e = ap (λ (m : Option ℤ). same_int (number_for m) n) e
+a_team false x k n e = absurd (false≢true (sym (ap (λ (m : Option ℤ). same_int (mark_for m) (pos 1)) e)))
 
 module _ (t : List ℤ) (z n : ℤ) (b : ℕ) (f : SFits w32 z) (q : b ≡ of_z w32 z) (h : b < 128) where
   low : is_in t b n ≡ fits_teams (joins z n) t
@@ -47,10 +45,10 @@ module _ (t : List ℤ) (z n : ℤ) (b : ℕ) (f : SFits w32 z) (q : b ≡ of_z 
       picks_first (ltb b 128) (is_in t b n) true (lt-ltb b 128 h)
       ∙ ap (λ (c : ℤ). fits_teams (joins c n) t) (sym (client_is z b f q h))
 
-  pub in_away : NoTeam ≡ team_of t z → false ≡ fits_teams (joins z n) t
+  pub in_away : None ≡ team_of t z → false ≡ fits_teams (joins z n) t
   in_away e = no_team (has_team t b) (number_of t b) n (e ∙ ap (team_of t) (client_is z b f q h)) ∙ low
 
-  pub in_here : (k : ℤ) → Number k ≡ team_of t z → same_int k n ≡ fits_teams (joins z n) t
+  pub in_here : (k : ℤ) → Some k ≡ team_of t z → same_int k n ≡ fits_teams (joins z n) t
   in_here k e = a_team (has_team t b) (number_of t b) k n (e ∙ ap (team_of t) (client_is z b f q h)) ∙ low
 
 -- ---- a board with teams
@@ -60,7 +58,7 @@ abbrev with : List ℤ → Taken → TeamTaken
 with t k = record { fits = k.fits; board = team_board k.board t }
 
 -- t are the teams that were given, u those that are left where the event fits
-module _ (k : BoardTick) (e : Entries) (t u : List ℤ) (r : Off) (left : Entries) where
+module _ (k : Option ℤ) (e : Entries) (t u : List ℤ) (r : Off) (left : Entries) where
   fits_beside : (a : Back) → r.fits ≡ true → taken_is r left ≡ taken_from (board k e) a
       → team_taken_is r left u ≡ team_taken_from (team_board (board k e) t) (beside u a)
   fits_beside (was b) p q = ap (with u) q
@@ -71,7 +69,7 @@ module _ (k : BoardTick) (e : Entries) (t u : List ℤ) (r : Off) (left : Entrie
   unfit_beside (was b) p q = absurd (false≢true (sym p ∙ ap (λ (x : Taken). x.fits) q))
   unfit_beside (refused why) p q = ap (with t) q
 
-module _ (v : Event) (ten former : List ℤ) (m : Team) (k : BoardTick) (e : Entries) (t : List ℤ) where
+module _ (v : Event) (ten former : List ℤ) (m : Option ℤ) (k : Option ℤ) (e : Entries) (t : List ℤ) where
   abbrev whole : TeamBack
   whole = take_off_team v ten former m (team_board (board k e) t)
 

@@ -1,7 +1,7 @@
 // Events taken off a board whose entries are lent: the core that every form of stepping back goes through.
 #![tactic(auto)]
 
-ghost use Rattle.std.specs.Prelude.{ℕ, ◌≡◌, cond, List, ℤ};
+ghost use Rattle.std.specs.Prelude.{ℕ, ◌≡◌, cond, List, ℤ, Some, None};
 ghost use Rattle.std.specs.Int.Signed.{non_neg};
 ghost use Rattle.fields.specs.Views.{zeros};
 ghost use Rattle.state.specs.State.{same_int, entries_with};
@@ -10,21 +10,19 @@ ghost use Rattle.back.specs.Board.{board};
 ghost use Rattle.back.specs.Back.{only_if, un_present, un_old, un_input, take_off};
 ghost use Rattle.back.specs.TeamBoard.{team_board, fits_teams, teams_before, take_off_team};
 ghost use Rattle.back.specs.Undo.{undone, former_in};
-ghost use Rattle.back.specs.declared.BoardTick.TheVariants.{In, NoTick};
 ghost use Rattle.teams.specs.Teams.{joins, joining_of};
 ghost use Rattle.taking.specs.Taking.{taken_from, taken_is, team_taken_from, team_taken_is};
 
-use back::{BoardTick, Undo};
-use teams::Team;
+use back::Undo;
 
 // Whether the event fitted, and the tick of the board that is left.
 #[derive(Clone, Copy)]
 pub struct Off {
     pub fits: bool,
-    pub tick: BoardTick,
+    pub tick: Option<i32>,
 }
 
-fn left(fits: bool, tick: BoardTick) -> Off
+fn left(fits: bool, tick: Option<i32>) -> Off
     ensures { result ≡ record { fits = fits; tick = tick } }
 {
     Off { fits, tick }
@@ -44,21 +42,21 @@ fn un_present(
     old_y: i32,
 ) -> Off
     ensures { (held : List ℕ) (inputs : List ℤ) → taken_is result (entries_with marks.new xs.new ys.new held inputs)
-        ≡ taken_from (board (In t) (entries_with marks.old xs.old ys.old held inputs))
+        ≡ taken_from (board (Some t) (entries_with marks.old xs.old ys.old held inputs))
         (un_present t (entries_with marks.old xs.old ys.old held inputs) cid x y mark old_x old_y) }
 {
     let bits = num::bits(cid);
     if 128 <= bits {
-        return left(false, BoardTick::In(t));
+        return left(false, Some(t));
     }
     let c = bits as usize;
     if !compare::at_position(marks[c], xs[c], ys[c], x, y) {
-        return left(false, BoardTick::In(t));
+        return left(false, Some(t));
     }
     marks[c] = mark;
     xs[c] = old_x;
     ys[c] = old_y;
-    left(true, BoardTick::In(t))
+    left(true, Some(t))
 }
 
 fn un_old(
@@ -71,21 +69,21 @@ fn un_old(
     y: i32,
 ) -> Off
     ensures { (held : List ℕ) (inputs : List ℤ) → taken_is result (entries_with marks.new xs.new ys.new held inputs)
-        ≡ taken_from (board (In t) (entries_with marks.old xs.old ys.old held inputs))
+        ≡ taken_from (board (Some t) (entries_with marks.old xs.old ys.old held inputs))
         (un_old t (entries_with marks.old xs.old ys.old held inputs) cid x y) }
 {
     let bits = num::bits(cid);
     if 128 <= bits {
-        return left(false, BoardTick::In(t));
+        return left(false, Some(t));
     }
     let c = bits as usize;
     if marks[c] == 1 {
-        return left(false, BoardTick::In(t));
+        return left(false, Some(t));
     }
     marks[c] = 1;
     xs[c] = x;
     ys[c] = y;
-    left(true, BoardTick::In(t))
+    left(true, Some(t))
 }
 
 // The mark and the numbers of the input entry before: those of the former input, or of none.
@@ -117,33 +115,33 @@ fn un_input(
     former: [i32; 10],
 ) -> Off
     ensures { (marks : List ℕ) (xs ys : List ℤ) → taken_is result (entries_with marks xs ys held.new inputs.new)
-        ≡ taken_from (board (In t) (entries_with marks xs ys held.old inputs.old))
+        ≡ taken_from (board (Some t) (entries_with marks xs ys held.old inputs.old))
         (un_input t (entries_with marks xs ys held.old inputs.old) cid had input former) }
 {
     let bits = num::bits(cid);
     if 128 <= bits {
-        return left(false, BoardTick::In(t));
+        return left(false, Some(t));
     }
     let c = bits as usize;
     if held[c] != 1 {
-        return left(false, BoardTick::In(t));
+        return left(false, Some(t));
     }
     let ten = inputs::ten_at(&*inputs, c);
     if !compare::same_ten(ten, input) {
-        return left(false, BoardTick::In(t));
+        return left(false, Some(t));
     }
     held[c] = mark_before(had);
     inputs::put_ten_at(&mut *inputs, c, ten_before(had, former));
-    left(true, BoardTick::In(t))
+    left(true, Some(t))
 }
 
 fn un_start(t: i32, u: i32) -> Off
-    ensures { (e : Entries) → taken_is result e ≡ taken_from (board (In t) e) (only_if (same_int t u) (board NoTick e)) }
+    ensures { (e : Entries) → taken_is result e ≡ taken_from (board (Some t) e) (only_if (same_int t u) (board None e)) }
 {
     if compare::same_number(t, u) {
-        return left(true, BoardTick::NoTick);
+        return left(true, None);
     }
-    left(false, BoardTick::In(t))
+    left(false, Some(t))
 }
 
 // An event taken off a board inside tick t.
@@ -159,12 +157,12 @@ fn inside(
     former: [i32; 10],
 ) -> Off
     ensures { taken_is result (entries_with marks.new xs.new ys.new held.new inputs.new)
-        ≡ taken_from (board (In t) (entries_with marks.old xs.old ys.old held.old inputs.old))
-        (take_off (undone undo) input former (In t) (entries_with marks.old xs.old ys.old held.old inputs.old)) }
+        ≡ taken_from (board (Some t) (entries_with marks.old xs.old ys.old held.old inputs.old))
+        (take_off (undone undo) input former (Some t) (entries_with marks.old xs.old ys.old held.old inputs.old)) }
 {
     match undo {
         Undo::Start(u) => un_start(t, u),
-        Undo::End(_) => left(false, BoardTick::In(t)),
+        Undo::End(_) => left(false, Some(t)),
         Undo::New { cid, x, y } => un_present(t, marks, xs, ys, cid, x, y, 0, 0, 0),
         Undo::Change {
             cid,
@@ -175,46 +173,46 @@ fn inside(
         } => un_present(t, marks, xs, ys, cid, x, y, 1, old_x, old_y),
         Undo::Old { cid, x, y } => un_old(t, marks, xs, ys, cid, x, y),
         Undo::Input { cid, former: had } => un_input(t, held, inputs, cid, had, input, former),
-        Undo::Team { .. } => left(true, BoardTick::In(t)),
-        Undo::Nothing => left(true, BoardTick::In(t)),
+        Undo::Team { .. } => left(true, Some(t)),
+        Undo::Nothing => left(true, Some(t)),
     }
 }
 
 fn un_end(u: i32) -> Off
-    ensures { (e : Entries) → taken_is result e ≡ taken_from (board NoTick e) (only_if (non_neg u) (board (In u) e)) }
+    ensures { (e : Entries) → taken_is result e ≡ taken_from (board None e) (only_if (non_neg u) (board (Some u) e)) }
 {
     if !compare::not_negative(u) {
-        return left(false, BoardTick::NoTick);
+        return left(false, None);
     }
-    left(true, BoardTick::In(u))
+    left(true, Some(u))
 }
 
 // An event taken off a board outside any tick: only TickEnd fits.
 fn outside(undo: Undo) -> Off
-    ensures { (input former : List ℤ) (e : Entries) → taken_is result e ≡ taken_from (board NoTick e) (take_off (undone undo) input former NoTick e) }
+    ensures { (input former : List ℤ) (e : Entries) → taken_is result e ≡ taken_from (board None e) (take_off (undone undo) input former None e) }
 {
     match undo {
-        Undo::Start(_) => left(false, BoardTick::NoTick),
+        Undo::Start(_) => left(false, None),
         Undo::End(u) => un_end(u),
-        Undo::New { cid: _, x: _, y: _ } => left(false, BoardTick::NoTick),
+        Undo::New { cid: _, x: _, y: _ } => left(false, None),
         Undo::Change {
             cid: _,
             x: _,
             y: _,
             old_x: _,
             old_y: _,
-        } => left(false, BoardTick::NoTick),
-        Undo::Old { cid: _, x: _, y: _ } => left(false, BoardTick::NoTick),
-        Undo::Input { cid: _, former: _ } => left(false, BoardTick::NoTick),
-        Undo::Team { .. } => left(false, BoardTick::NoTick),
-        Undo::Nothing => left(false, BoardTick::NoTick),
+        } => left(false, None),
+        Undo::Old { cid: _, x: _, y: _ } => left(false, None),
+        Undo::Input { cid: _, former: _ } => left(false, None),
+        Undo::Team { .. } => left(false, None),
+        Undo::Nothing => left(false, None),
     }
 }
 
 // An event that is known by its undo, taken off a board: where it doesn't fit (19), nothing changes. Whether the board is a good one (17)
 // is not tested. Of an event other than an input the ten numbers and the former ten are not looked at.
 pub fn take_off(
-    tick: BoardTick,
+    tick: Option<i32>,
     marks: &mut [u8; 128],
     xs: &mut [i32; 128],
     ys: &mut [i32; 128],
@@ -229,8 +227,8 @@ pub fn take_off(
         (take_off (undone undo) input former tick (entries_with marks.old xs.old ys.old held.old inputs.old)) }
 {
     match tick {
-        BoardTick::In(t) => inside(t, marks, xs, ys, held, inputs, undo, input, former),
-        BoardTick::NoTick => outside(undo),
+        Some(t) => inside(t, marks, xs, ys, held, inputs, undo, input, former),
+        None => outside(undo),
     }
 }
 
@@ -244,7 +242,7 @@ fn is_in(teams: &[i32; 256], cid: i32, team: i32) -> bool
     if 128 <= bits {
         return true;
     }
-    let Team::Number(n) = teams::team_of(teams, cid) else {
+    let Some(n) = teams::team_of(teams, cid) else {
         return false;
     };
     compare::same_number(n, team)
@@ -284,7 +282,7 @@ fn put_former(teams: &mut [i32; 256], undo: Undo)
 
 // The same of a board with teams.
 pub fn take_off_team(
-    tick: BoardTick,
+    tick: Option<i32>,
     marks: &mut [u8; 128],
     xs: &mut [i32; 128],
     ys: &mut [i32; 128],

@@ -1,4 +1,5 @@
 -- The version stays, nobody loses a team, and version 1 has none to give: a clause for each act, then any list of calls. Assumes nothing.
+use Rattle.std.specs.Prelude.{Option, Some, None}
 use Prim.Native.Nat.{ℕ}
 use mathlib.Core.Path.{◌≡◌, refl, sym, ap, subst, ◌∙◌}
 use mathlib.Core.Bool.{Bool, true, false, false≢true}
@@ -23,8 +24,6 @@ use Rattle.state.specs.State.{Memory, good_pending, good_scalars, good_entries, 
 use Rattle.state.specs.Reading.{Event, Step, closing, raising, naming, starting, ending, skipping, next_kind, read_call, reader_after}
 use Rattle.state.specs.Acts.{Had, Act, ReadAct}
 use Rattle.state.specs.Acts as act
-use Rattle.state.specs.declared.Pending.{Pending}
-use Rattle.state.specs.declared.Pending.TheVariants.{Is, NoKind}
 use Rattle.state.specs.declared.Entries.{Entries}
 use Rattle.state.specs.declared.Scalars.{Scalars}
 use Rattle.state.specs.declared.Reader.{Reader}
@@ -34,7 +33,6 @@ use Rattle.state.proofs.Numbers.{picks_first, picks_second}
 use Rattle.state.proofs.Theorems.{read_calls_are_acts}
 use Rattle.teams.specs.Teams.{has_team, team_of, good_teams, nobody, is_player_team, joining_in, joining_of, teams_after}
 use Rattle.teams.specs.Laws.{SoundTeams}
-use Rattle.teams.specs.declared.Team.TheVariants.{Number, NoTeam}
 use Rattle.teams.specs.declared.TeamReader.{TeamReader}
 use Rattle.teams.proofs.Theorems.{teams_stay}
 use Rattle.calls.specs.Calls.{Call, call}
@@ -94,15 +92,15 @@ version_stays r list =
 
 -- ---- nobody loses a team
 
-no_number : {n : ℤ} → Number n ≡ NoTeam → ⊥
+no_number : {n : ℤ} → Some n ≡ None → ⊥
 no_number e = let z : ◌≡◌ {A = ℕ} 0 1 = cc in omega arith
 
 module _ (t : List ℤ) (c : ℕ) where
-  pub has_some : has_team t c ≡ true → team_of t (pos c) ≡ NoTeam → ⊥
-  has_some h e = no_number (picks_first (has_team t c) _ NoTeam h ∙ e)
+  pub has_some : has_team t c ≡ true → team_of t (pos c) ≡ None → ⊥
+  has_some h e = no_number (picks_first (has_team t c) _ None h ∙ e)
 
-  pub some_has : (team_of t (pos c) ≡ NoTeam → ⊥) → has_team t c ≡ true
-  some_has n = by_bool (has_team t c) (λ q. q) (λ q. absurd (n (sym (picks_second (has_team t c) _ NoTeam q))))
+  pub some_has : (team_of t (pos c) ≡ None → ⊥) → has_team t c ≡ true
+  some_has n = by_bool (has_team t c) (λ q. q) (λ q. absurd (n (sym (picks_second (has_team t c) _ None q))))
 
 said_stays : (a : Said Event) (t : List ℤ) (c : ℕ) → SoundTeams t → has_team t c ≡ true → has_team (teams_said a t) c ≡ true
 said_stays (gives e n) t c s h = some_has (teams_after e t) c (teams_stay e t (pos c) s.size (has_some t c h))
@@ -125,10 +123,10 @@ teams_never_lost r list c s h =
 
 -- ---- version 1: no extension is read
 
-kind_no_ex : (v : Version) (p : Pending) (w : List ℕ) (n : ℕ) → v ≡ V1 → good_pending v p ≡ true → next_kind v p w ≡ got kinds.Ex n → ⊥
+kind_no_ex : (v : Version) (p : Option Kind) (w : List ℕ) (n : ℕ) → v ≡ V1 → good_pending v p ≡ true → next_kind v p w ≡ got kinds.Ex n → ⊥
 unfolding next_kind
-kind_no_ex V1 NoKind w n e g q = false≢true (kind_taken V1 w 0 (omega arith) kinds.Ex n q).allowed
-kind_no_ex V1 (Is k) w n e g q = let z : k ≡ kinds.Ex = cc in false≢true (rw z at g)
+kind_no_ex V1 None w n e g q = false≢true (kind_taken V1 w 0 (omega arith) kinds.Ex n q).allowed
+kind_no_ex V1 (Some k) w n e g q = let z : k ≡ kinds.Ex = cc in false≢true (rw z at g)
 kind_no_ex V2 p w n e g q = let z : ◌≡◌ {A = ℕ} 0 1 = cc in omega arith
 
 -- a record of another kind is none

@@ -1,7 +1,6 @@
 -- Reading calls with teams, one behind the other.
-use Rattle.std.specs.Prelude.{List, [], ◌∷◌, ◌++◌, map, ℤ}
+use Rattle.std.specs.Prelude.{List, [], ◌∷◌, ◌++◌, map, ℤ, Option}
 use Rattle.teams.specs.Teams.{teams_after, former_team}
-use Rattle.teams.specs.declared.Team.{Team}
 use Rattle.teams.specs.declared.TeamReader.{TeamReader}
 use Rattle.calls.specs.Calls.{Call, Seen, is_pending, seen_by, seen_in}
 use Rattle.team_calls.specs.Reading.{TeamStep, team_call, team_reader_after}
@@ -9,9 +8,9 @@ use Rattle.team_calls.specs.Reading.{TeamStep, team_call, team_reader_after}
 -- an event that a call gave, and the former team beside it
 pub record TeamSeen : Type 0 where
   pub seen : Seen
-  pub team : Team
+  pub team : Option ℤ
 
-abbrev pub team_seen : Team → Seen → TeamSeen
+abbrev pub team_seen : Option ℤ → Seen → TeamSeen
 team_seen m x = record { seen = x; team = m }
 
 -- ---- any list of calls, each on the reader that the last one left

@@ -1,19 +1,17 @@
 -- A reading call with teams: the call without them, and above it what its event says of a team. docs/FORMAT.md, "Teams".
-use Rattle.std.specs.Prelude.{ℕ, Bool, cond, List, ℤ}
+use Rattle.std.specs.Prelude.{ℕ, Bool, cond, List, ℤ, Option, None}
 use Rattle.refusal.specs.declared.Refusal.TheVariants.{BadState}
 use Rattle.item.specs.Said.{Said, gives, more, finish, refuses, refusing}
 use Rattle.state.specs.Reading.{Event, Step, step_of, read_call, reader_after}
 use Rattle.state.specs.steps.Parts.{memory_of}
 use Rattle.teams.specs.Teams.{good_teams, teams_after, former_team, team_reader}
-use Rattle.teams.specs.declared.Team.{Team}
-use Rattle.teams.specs.declared.Team.TheVariants.{NoTeam}
 use Rattle.teams.specs.declared.TeamReader.{TeamReader}
 
 -- what the call without teams says and leaves; the teams left; of a PlayerTeam event the former team
 pub record TeamStep : Type 0 where
   pub step : Step
   pub teams : List ℤ
-  pub former : Team
+  pub former : Option ℤ
 
 -- only an event changes a team
 abbrev pub teams_said : Said Event → List ℤ → List ℤ
@@ -22,11 +20,11 @@ teams_said more t = t
 teams_said (finish n) t = t
 teams_said (refuses k vs) t = t
 
-abbrev pub former_said : Said Event → List ℤ → Team
+abbrev pub former_said : Said Event → List ℤ → Option ℤ
 former_said (gives e n) t = former_team e t
-former_said more t = NoTeam
-former_said (finish n) t = NoTeam
-former_said (refuses k vs) t = NoTeam
+former_said more t = None
+former_said (finish n) t = None
+former_said (refuses k vs) t = None
 
 -- above a call without teams
 abbrev pub with_teams : Step → List ℤ → TeamStep

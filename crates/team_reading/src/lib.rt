@@ -11,32 +11,32 @@ ghost use Rattle.team_reading.specs.Answers.{TeamReadIs, team_call_on, LentTells
 use reader::ReadAnswer;
 use refusal::Refusal;
 use state::{Answer, Outcome, Scalars};
-use teams::{Team, TeamReader};
+use teams::TeamReader;
 
 // What a reading call with teams hands back. The former team belongs to a PlayerTeam record; it is none elsewhere.
 #[derive(Clone, Copy)]
 pub struct TeamRead {
     pub read: ReadAnswer,
     pub teams: [i32; 256],
-    pub former: Team,
+    pub former: Option<i32>,
 }
 
 // The same of a call on lent memory.
 #[derive(Clone, Copy)]
 pub struct TeamOutcome {
     pub outcome: Outcome,
-    pub former: Team,
+    pub former: Option<i32>,
 }
 
 // The teams after what a call answered; the former team.
-fn apply_answer(teams: &mut [i32; 256], answer: Answer) -> Team
+fn apply_answer(teams: &mut [i32; 256], answer: Answer) -> Option<i32>
     ensures { (result ≡ former_said (said_is answer) teams.old) × (teams.new ≡ teams_said (said_is answer) teams.old) }
 {
     match answer {
         Answer::Event { event, used: _ } => teams::apply(teams, event),
-        Answer::More => Team::NoTeam,
-        Answer::Finish { used: _ } => Team::NoTeam,
-        Answer::Refused(_) => Team::NoTeam,
+        Answer::More => None,
+        Answer::Finish { used: _ } => None,
+        Answer::Refused(_) => None,
     }
 }
 
@@ -50,7 +50,7 @@ pub fn read(reader: TeamReader, window: &[u8], last: bool) -> TeamRead
         return TeamRead {
             read: reader::refused(plain, Refusal::BadState),
             teams,
-            former: Team::NoTeam,
+            former: None,
         };
     }
     let read = reader::read(plain, window, last);
@@ -87,7 +87,7 @@ pub fn read_lent(
                 answer: Answer::Refused(Refusal::BadState),
                 scalars,
             },
-            former: Team::NoTeam,
+            former: None,
         };
     }
     let outcome = lent::read_plain(scalars, marks, xs, ys, held, inputs, input, former, w, last);
@@ -100,7 +100,7 @@ pub fn read_lent(
 }
 
 // The team of a client, or none.
-pub fn team(reader: TeamReader, cid: i32) -> Team
+pub fn team(reader: TeamReader, cid: i32) -> Option<i32>
     ensures { result ≡ team_of reader.teams cid }
 {
     let teams = reader.teams;

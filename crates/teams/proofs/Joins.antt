@@ -1,4 +1,5 @@
 -- What a record taken apart tells of the PlayerTeam that it may be. Assumes nothing.
+use Rattle.std.specs.Prelude.{Some, None}
 use mathlib.Core.Path.{◌≡◌, refl, sym, ap, ◌∙◌}
 use mathlib.Core.Bool.{cond, false}
 use mathlib.Core.List.{List}
@@ -24,7 +25,6 @@ use Rattle.item.specs.declared.Taken.{Taken}
 use Rattle.state.specs.Reading.{Event, tick_start, tick_end, player_new, player_change, player_old, input, other}
 use Rattle.state.specs.Slim.{slim}
 use Rattle.teams.specs.Teams.{Joining, joins, nobody, is_player_team, number_at, joining_in, joining_of, on_joining, put_team, team_of, teams_after, former_team}
-use Rattle.teams.specs.declared.Team.TheVariants.{Number, NoTeam}
 
 -- by the tag and the fields
 abbrev pub joining_by : Tag → Fields → Joining
@@ -76,8 +76,8 @@ slim_joining (other c) = joining_own c
 
 pub slim_teams : (e : Event) (t : List ℤ) → teams_after (slim e) t ≡ teams_after e t
 unfolding teams_after
-slim_teams e t = ap (on_joining (λ c n. put_team t c (Number n)) t) (slim_joining e)
+slim_teams e t = ap (on_joining (λ c n. put_team t c (Some n)) t) (slim_joining e)
 
 pub slim_former : (e : Event) (t : List ℤ) → former_team (slim e) t ≡ former_team e t
 unfolding former_team
-slim_former e t = ap (on_joining (λ c n. team_of t c) NoTeam) (slim_joining e)
+slim_former e t = ap (on_joining (λ c n. team_of t c) None) (slim_joining e)

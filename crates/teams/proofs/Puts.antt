@@ -1,4 +1,5 @@
 -- One client's two numbers among the teams: put in, read back, the others not touched, put back. Assumes nothing.
+use Rattle.std.specs.Prelude.{Option, Some, None}
 use Prim.Native.Nat.{ℕ, zero, suc, ◌+◌, ◌*◌, ◌<◌}
 use mathlib.Core.Path.{◌≡◌, refl, sym, ap, ◌∙◌}
 use mathlib.Core.Bool.{Bool, true, false, cond, ◌&&◌, false≢true}
@@ -16,8 +17,6 @@ use Rattle.state.specs.State.{same_int, every}
 use Rattle.state.proofs.Every.{every_map}
 use Rattle.state.proofs.Numbers.{picks_first, picks_second}
 use Rattle.teams.specs.Teams.{mark_of, number_of, has_team, team_of, is_in, mark_for, number_for, with_team, good_team, good_teams}
-use Rattle.teams.specs.declared.Team.{Team}
-use Rattle.teams.specs.declared.Team.TheVariants.{Number, NoTeam}
 
 -- ---- tests
 
@@ -41,9 +40,9 @@ every_at (suc n) p e i h =
 abbrev pub good_at : List ℤ → ℕ → Bool
 good_at t c = good_team (mark_of t c) (number_of t c)
 
-good_for : (m : Team) → good_team (mark_for m) (number_for m) ≡ true
-good_for (Number n) = refl
-good_for NoTeam = refl
+good_for : (m : Option ℤ) → good_team (mark_for m) (number_for m) ≡ true
+good_for (Some n) = refl
+good_for None = refl
 
 blank : (mark number : ℤ) → same_int mark (pos 1) ≡ false → good_team mark number ≡ true → (mark ≡ pos 0) × (number ≡ pos 0)
 blank mark number e g =
@@ -53,7 +52,7 @@ blank mark number e g =
 
 -- ---- a client's two numbers
 
-module _ (t : List ℤ) (c : ℕ) (m : Team) where
+module _ (t : List ℤ) (c : ℕ) (m : Option ℤ) where
   pub with_length : length (with_team t c m) ≡ length t
   unfolding with_team
   with_length = length-set (set t (2 * c) (mark_for m)) (2 * c + 1) (number_for m) ∙ length-set t (2 * c) (mark_for m)
@@ -85,9 +84,9 @@ module _ (t : List ℤ) (c : ℕ) (m : Team) where
   with_others d n =
       let p = mark_other d n in
       let q = number_other d n in
-      λ k. cond (ltb d 128 && same_int (p k) (pos 1)) (Number (q k)) NoTeam
+      λ k. cond (ltb d 128 && same_int (p k) (pos 1)) (Some (q k)) None
 
-  put_back : (k : Team) → mark_for k ≡ mark_of t c → number_for k ≡ number_of t c → with_team (with_team t c m) c k ≡ t
+  put_back : (k : Option ℤ) → mark_for k ≡ mark_of t c → number_for k ≡ number_of t c → with_team (with_team t c m) c k ≡ t
   unfolding with_team
   put_back k p q =
       let i = 2 * c in
@@ -105,20 +104,20 @@ module _ (t : List ℤ) (c : ℕ) (m : Team) where
 
 module _ (t : List ℤ) (c : ℕ) (size : length t ≡ 256) (h : c < 128) where
   module _ (n : ℤ) where
-    has_team_law : has_team (with_team t c (Number n)) c ≡ true
+    has_team_law : has_team (with_team t c (Some n)) c ≡ true
     has_team_law =
-        and_both (ltb c 128) _ (lt-ltb c 128 h) (ap (λ (x : ℤ). same_int x (pos 1)) (mark_same t c (Number n) (omega arith)))
+        and_both (ltb c 128) _ (lt-ltb c 128 h) (ap (λ (x : ℤ). same_int x (pos 1)) (mark_same t c (Some n) (omega arith)))
 
-    pub with_in : is_in (with_team t c (Number n)) c n ≡ true
+    pub with_in : is_in (with_team t c (Some n)) c n ≡ true
     with_in =
-        and_both (has_team (with_team t c (Number n)) c) _ has_team_law
-        (ap (λ (x : ℤ). same_int x n) (number_same t c (Number n) (omega arith)) ∙ same_self n)
+        and_both (has_team (with_team t c (Some n)) c) _ has_team_law
+        (ap (λ (x : ℤ). same_int x n) (number_same t c (Some n) (omega arith)) ∙ same_self n)
 
-    pub with_set : team_of (with_team t c (Number n)) (pos c) ≡ Number n
+    pub with_set : team_of (with_team t c (Some n)) (pos c) ≡ Some n
     with_set =
-        sym (picks_first (has_team (with_team t c (Number n)) c) _ NoTeam has_team_law) ∙ ap Number (number_same t c (Number n) (omega arith))
+        sym (picks_first (has_team (with_team t c (Some n)) c) _ None has_team_law) ∙ ap Some (number_same t c (Some n) (omega arith))
 
-  pub with_good : (m : Team) → good_teams t ≡ true → good_teams (with_team t c m) ≡ true
+  pub with_good : (m : Option ℤ) → good_teams t ≡ true → good_teams (with_team t c m) ≡ true
   unfolding good_teams
   with_good m g =
       let u = with_team t c m in
@@ -132,17 +131,17 @@ module _ (t : List ℤ) (c : ℕ) (size : length t ≡ 256) (h : c < 128) where
       g
 
   -- the team that is read there is the one whose two numbers stand there
-  pub with_back : (n : ℤ) → good_teams t ≡ true → with_team (with_team t c (Number n)) c (team_of t (pos c)) ≡ t
+  pub with_back : (n : ℤ) → good_teams t ≡ true → with_team (with_team t c (Some n)) c (team_of t (pos c)) ≡ t
   unfolding good_teams
   with_back n g =
       let e = every_at 128 (good_at t) g c h in
-      let some = picks_first (has_team t c) (Number (number_of t c)) NoTeam in
-      let none = picks_second (has_team t c) (Number (number_of t c)) NoTeam in
+      let some = picks_first (has_team t c) (Some (number_of t c)) None in
+      let none = picks_second (has_team t c) (Some (number_of t c)) None in
       by_bool (same_int (mark_of t c) (pos 1))
       (λ q.
       let s = sym (some (and_both (ltb c 128) _ (lt-ltb c 128 h) q)) in
-      put_back t c (Number n) (team_of t (pos c)) (ap mark_for s ∙ sym (same_true (mark_of t c) (pos 1) q)) (ap number_for s))
+      put_back t c (Some n) (team_of t (pos c)) (ap mark_for s ∙ sym (same_true (mark_of t c) (pos 1) q)) (ap number_for s))
       (λ q.
       let s = sym (none (rw (lt-ltb c 128 h) q)) in
       let z = blank (mark_of t c) (number_of t c) q e in
-      put_back t c (Number n) (team_of t (pos c)) (ap mark_for s ∙ sym z.0) (ap number_for s ∙ sym z.1))
+      put_back t c (Some n) (team_of t (pos c)) (ap mark_for s ∙ sym z.0) (ap number_for s ∙ sym z.1))

@@ -1,4 +1,5 @@
 -- The statements of specs/Laws.antt. Assumes nothing.
+use Rattle.std.specs.Prelude.{Option, Some, None}
 use Prim.Native.Nat.{ℕ, ◌+◌, ◌*◌, ◌<◌}
 use mathlib.Core.Path.{◌≡◌, refl, sym, ap, ◌∙◌}
 use mathlib.Core.Bool.{Bool, true, false, ◌&&◌, false≢true}
@@ -25,8 +26,6 @@ use Rattle.teams.specs.Laws.{
   TeamsStay,
   TeamsGoBack,
 }
-use Rattle.teams.specs.declared.Team.{Team}
-use Rattle.teams.specs.declared.Team.TheVariants.{Number, NoTeam}
 use Rattle.teams.proofs.Teams.{somebody_joins}
 use Rattle.teams.proofs.Puts.{same_true, good_at, with_length, with_others, with_in, with_set, with_good, with_back}
 
@@ -52,14 +51,14 @@ and-false false b f = refl
 
 pub no_teams_none : NoTeamsNone
 no_teams_none (pos c) =
-    sym (picks_second (has_team no_teams c) (Number (number_of no_teams c)) NoTeam
+    sym (picks_second (has_team no_teams c) (Some (number_of no_teams c)) None
     (and-false (ltb c 128) (same_int (mark_of no_teams c) (pos 1))
     (λ e. ap (λ (m : ℤ). same_int m (pos 1)) (no_mark_law c (ltb-true c 128 e)))))
 no_teams_none (negsuc c) = refl
 
 -- ---- sound teams
 
-pub put_sound : (t : List ℤ) (c : ℤ) (m : Team) → SoundTeams t → SoundTeams (put_team t c m)
+pub put_sound : (t : List ℤ) (c : ℤ) (m : Option ℤ) → SoundTeams t → SoundTeams (put_team t c m)
 put_sound t (pos c) m s =
     by_cond SoundTeams (ltb c 128)
     (λ e.
@@ -74,23 +73,23 @@ pub teams_stay_sound : TeamsStaySound
 unfolding teams_after
 teams_stay_sound e t s = go (joining_of e)
   where
-    go : (j : Joining) → SoundTeams (on_joining (λ c n. put_team t c (Number n)) t j)
-    go (joins c n) = put_sound t c (Number n) s
+    go : (j : Joining) → SoundTeams (on_joining (λ c n. put_team t c (Some n)) t j)
+    go (joins c n) = put_sound t c (Some n) s
     go nobody = s
 
 -- ---- a PlayerTeam
 
 -- what stands there after a PlayerTeam of client c, 0 to 127
-placed : (e : Event) (t : List ℤ) (c : ℕ) (n : ℤ) → c < 128 → joining_of e ≡ joins (pos c) n → teams_after e t ≡ with_team t c (Number n)
+placed : (e : Event) (t : List ℤ) (c : ℕ) (n : ℤ) → c < 128 → joining_of e ≡ joins (pos c) n → teams_after e t ≡ with_team t c (Some n)
 placed e t c n h j =
-    sym (somebody_joins e t (pos c) n (sym j)).1 ∙ sym (picks_first (ltb c 128) (with_team t c (Number n)) t (lt-ltb c 128 h))
+    sym (somebody_joins e t (pos c) n (sym j)).1 ∙ sym (picks_first (ltb c 128) (with_team t c (Some n)) t (lt-ltb c 128 h))
 
 pub team_set : TeamSet
 team_set e t c n size h j = ap (λ (u : List ℤ). team_of u (pos c)) (placed e t c n h j) ∙ with_set t c size h n
 
-put_others : (t : List ℤ) (c d n : ℤ) → same_int d c ≡ false → team_of (put_team t c (Number n)) d ≡ team_of t d
+put_others : (t : List ℤ) (c d n : ℤ) → same_int d c ≡ false → team_of (put_team t c (Some n)) d ≡ team_of t d
 put_others t (pos c) (pos d) n x =
-    by_cond (λ u. team_of u (pos d) ≡ team_of t (pos d)) (ltb c 128) (λ e. with_others t c (Number n) d (eqb-false d c x)) (λ e. refl)
+    by_cond (λ u. team_of u (pos d) ≡ team_of t (pos d)) (ltb c 128) (λ e. with_others t c (Some n) d (eqb-false d c x)) (λ e. refl)
 put_others t (pos c) (negsuc d) n x = refl
 put_others t (negsuc c) d n x = refl
 
@@ -103,12 +102,12 @@ old_keeps_team t c x y = refl
 
 -- ---- who has a team
 
-some_team : (n : ℤ) → Number n ≡ NoTeam → ⊥
-some_team n e = false≢true (sym (ap (λ (m : Team). same_int (mark_for m) (pos 1)) e))
+some_team : (n : ℤ) → Some n ≡ None → ⊥
+some_team n e = false≢true (sym (ap (λ (m : Option ℤ). same_int (mark_for m) (pos 1)) e))
 
-put_stays : (t : List ℤ) (c n : ℤ) → length t ≡ 256 → (team_of t c ≡ NoTeam → ⊥) → team_of (put_team t c (Number n)) c ≡ NoTeam → ⊥
+put_stays : (t : List ℤ) (c n : ℤ) → length t ≡ 256 → (team_of t c ≡ None → ⊥) → team_of (put_team t c (Some n)) c ≡ None → ⊥
 put_stays t (pos c) n size some =
-    by_cond (λ u. team_of u (pos c) ≡ NoTeam → ⊥) (ltb c 128)
+    by_cond (λ u. team_of u (pos c) ≡ None → ⊥) (ltb c 128)
     (λ e none. some_team n (sym (with_set t c size (ltb-true c 128 e) n) ∙ none))
     (λ e. some)
 put_stays t (negsuc c) n size some = some
@@ -117,12 +116,12 @@ pub teams_stay : TeamsStay
 unfolding teams_after
 teams_stay e t c size some = go (joining_of e)
   where
-    go : (j : Joining) → team_of (on_joining (λ d n. put_team t d (Number n)) t j) c ≡ NoTeam → ⊥
+    go : (j : Joining) → team_of (on_joining (λ d n. put_team t d (Some n)) t j) c ≡ None → ⊥
     go (joins d n) none =
         by_bool (same_int c d)
         (λ q.
         put_stays t c n size some
-        (ap (λ (x : ℤ). team_of (put_team t x (Number n)) c) (same_true c d q) ∙ none))
+        (ap (λ (x : ℤ). team_of (put_team t x (Some n)) c) (same_true c d q) ∙ none))
         (λ q. some (sym (put_others t d c n q) ∙ none))
     go nobody none = some none
 
@@ -131,7 +130,7 @@ teams_stay e t c size some = go (joining_of e)
 pub teams_go_back : TeamsGoBack
 teams_go_back e t c n s h j =
     let p = placed e t c n h j in
-    let u = with_team t c (Number n) in
+    let u = with_team t c (Some n) in
     let f = sym (somebody_joins e t (pos c) n (sym j)).0 in
     record {
       equal = ap (λ (x : List ℤ). is_in x c n) p ∙ with_in t c s.size h n;

@@ -1,9 +1,8 @@
 -- What holds of teams, as statements; proofs/Theorems.antt proves each.
-use Rattle.std.specs.Prelude.{ℕ, ◌<◌, ◌≡◌, true, false, List, length, ℤ, pos}
+use Rattle.std.specs.Prelude.{ℕ, ◌<◌, ◌≡◌, true, false, List, length, ℤ, pos, Some, None}
 use Rattle.state.specs.State.{same_int}
 use Rattle.state.specs.Reading.{Event, player_old}
 use Rattle.teams.specs.Teams.{team_of, is_in, put_team, good_teams, no_teams, joins, joining_of, teams_after, former_team}
-use Rattle.teams.specs.declared.Team.TheVariants.{Number, NoTeam}
 
 -- teams that are not refused 17, with the length that the array has
 pub record SoundTeams (t : List ℤ) : Type 0 where
@@ -15,7 +14,7 @@ NoTeamsSound = SoundTeams no_teams
 
 -- nobody has a team there
 abbrev pub NoTeamsNone : Type 0
-NoTeamsNone = (c : ℤ) → team_of no_teams c ≡ NoTeam
+NoTeamsNone = (c : ℤ) → team_of no_teams c ≡ None
 
 -- an event keeps them so
 abbrev pub TeamsStaySound : Type 0
@@ -25,7 +24,7 @@ TeamsStaySound = (e : Event) (t : List ℤ) → SoundTeams t → SoundTeams (tea
 abbrev pub TeamSet : Type 0
 TeamSet =
     (e : Event) (t : List ℤ) (c : ℕ) (n : ℤ) → length t ≡ 256 → c < 128 → joining_of e ≡ joins (pos c) n
-    → team_of (teams_after e t) (pos c) ≡ Number n
+    → team_of (teams_after e t) (pos c) ≡ Some n
 
 -- and that of every other client stays
 abbrev pub OthersStay : Type 0
@@ -38,7 +37,7 @@ OldKeepsTeam = (t : List ℤ) (c x y : ℤ) → teams_after (player_old c x y) t
 
 -- who has a team goes on having one
 abbrev pub TeamsStay : Type 0
-TeamsStay = (e : Event) (t : List ℤ) (c : ℤ) → length t ≡ 256 → (team_of t c ≡ NoTeam → ⊥) → team_of (teams_after e t) c ≡ NoTeam → ⊥
+TeamsStay = (e : Event) (t : List ℤ) (c : ℤ) → length t ≡ 256 → (team_of t c ≡ None → ⊥) → team_of (teams_after e t) c ≡ None → ⊥
 
 -- a PlayerTeam undone: its client is in the record's team, and with the former one back the teams are what they were
 pub record TeamsBack (e : Event) (t : List ℤ) (c : ℕ) (n : ℤ) : Type 0 where

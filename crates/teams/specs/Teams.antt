@@ -1,5 +1,5 @@
 -- Teams: of each client 0 to 127 its team number or none, set by PlayerTeam. docs/FORMAT.md, "Teams".
-use Rattle.std.specs.Prelude.{ℕ, ◌+◌, ◌*◌, Bool, true, false, cond, ◌&&◌, List, get_or, set, ltb, ℤ, pos, negsuc}
+use Rattle.std.specs.Prelude.{ℕ, ◌+◌, ◌*◌, Bool, true, false, cond, ◌&&◌, List, get_or, set, ltb, ℤ, pos, negsuc, Option, Some, None}
 use Rattle.packer.specs.declared.Part.{Part}
 use Rattle.fields.specs.Fields.{num, on_num}
 use Rattle.fields.specs.Views.{zeros}
@@ -13,8 +13,6 @@ use Rattle.item.specs.Contents.{by_tag}
 use Rattle.state.specs.State.{same_int, every, good_reader, empty_reader}
 use Rattle.state.specs.Reading.{Event, tick_start, tick_end, player_new, player_change, player_old, input, other}
 use Rattle.state.specs.declared.Reader.{Reader}
-use Rattle.teams.specs.declared.Team.{Team}
-use Rattle.teams.specs.declared.Team.TheVariants.{Number, NoTeam}
 use Rattle.teams.specs.declared.TeamReader.{TeamReader}
 
 -- ---- entries: two numbers for each client 0 to 127, its mark, 0 or 1, and its team; without a team both are 0
@@ -29,28 +27,28 @@ abbrev pub has_team : List ℤ → ℕ → Bool
 has_team t c = ltb c 128 && same_int (mark_of t c) (pos 1)
 
 -- the team of a client, or none
-abbrev pub team_of : List ℤ → ℤ → Team
-team_of t (pos c) = cond (has_team t c) (Number (number_of t c)) NoTeam
-team_of t (negsuc c) = NoTeam
+abbrev pub team_of : List ℤ → ℤ → Option ℤ
+team_of t (pos c) = cond (has_team t c) (Some (number_of t c)) None
+team_of t (negsuc c) = None
 
 -- client c is in team n
 abbrev pub is_in : List ℤ → ℕ → ℤ → Bool
 is_in t c n = has_team t c && same_int (number_of t c) n
 
-abbrev pub mark_for : Team → ℤ
-mark_for (Number n) = pos 1
-mark_for NoTeam = pos 0
+abbrev pub mark_for : Option ℤ → ℤ
+mark_for (Some n) = pos 1
+mark_for None = pos 0
 
-abbrev pub number_for : Team → ℤ
-number_for (Number n) = n
-number_for NoTeam = pos 0
+abbrev pub number_for : Option ℤ → ℤ
+number_for (Some n) = n
+number_for None = pos 0
 
 -- client c's team becomes this one, or none
-unfoldable pub with_team : List ℤ → ℕ → Team → List ℤ
+unfoldable pub with_team : List ℤ → ℕ → Option ℤ → List ℤ
 with_team t c m = set (set t (2 * c) (mark_for m)) (2 * c + 1) (number_for m)
 
 -- a client outside 0 to 127 has no entry
-abbrev pub put_team : List ℤ → ℤ → Team → List ℤ
+abbrev pub put_team : List ℤ → ℤ → Option ℤ → List ℤ
 put_team t (pos c) m = cond (ltb c 128) (with_team t c m) t
 put_team t (negsuc c) m = t
 
@@ -98,11 +96,11 @@ on_joining f x nobody = x
 
 -- the teams after an event: only PlayerTeam changes one
 unfoldable pub teams_after : Event → List ℤ → List ℤ
-teams_after e t = on_joining (λ c n. put_team t c (Number n)) t (joining_of e)
+teams_after e t = on_joining (λ c n. put_team t c (Some n)) t (joining_of e)
 
 -- the team that the client of a PlayerTeam had before it, or none
-unfoldable pub former_team : Event → List ℤ → Team
-former_team e t = on_joining (λ c n. team_of t c) NoTeam (joining_of e)
+unfoldable pub former_team : Event → List ℤ → Option ℤ
+former_team e t = on_joining (λ c n. team_of t c) None (joining_of e)
 
 -- ---- the reader with its teams
 

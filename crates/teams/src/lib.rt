@@ -12,13 +12,6 @@ use item::{Item, Tag};
 use kinds::Version;
 use state::{Event, Reader};
 
-// A team number, or none.
-#[derive(Clone, Copy)]
-pub enum Team {
-    Number(i32),
-    NoTeam,
-}
-
 // A reader and its teams: two numbers for each client 0 to 127, its mark, 0 or 1, and its team; without a team both are 0.
 #[derive(Clone, Copy)]
 pub struct TeamReader {
@@ -40,9 +33,9 @@ impl TeamReader {
 
 // What a PlayerTeam record says: the client and its team.
 #[derive(Clone, Copy)]
-pub enum Joining {
-    Joins { cid: i32, team: i32 },
-    Nobody,
+pub struct PlayerTeam {
+    pub cid: i32,
+    pub team: i32,
 }
 
 fn is_player_team(which: Extension) -> bool
@@ -73,7 +66,7 @@ fn is_player_team(which: Extension) -> bool
 }
 
 // What a record says, if it is a PlayerTeam.
-pub fn joining_in(item: Item) -> Joining
+pub fn joining_in(item: Item) -> Option<PlayerTeam>
     ensures { joining_is result ≡ joining_in (item_of item) }
 {
     let t = item.take_apart();
@@ -81,28 +74,28 @@ pub fn joining_in(item: Item) -> Joining
     let cid = t.fields.first;
     let team = t.fields.second;
     match tag {
-        Tag::Plain(_) => Joining::Nobody,
+        Tag::Plain(_) => None,
         Tag::Named(which) => {
             if is_player_team(which) {
-                return Joining::Joins { cid, team };
+                return Some(PlayerTeam { cid, team });
             }
-            Joining::Nobody
+            None
         }
-        Tag::Other => Joining::Nobody,
+        Tag::Other => None,
     }
 }
 
 // What an event says, if it is a PlayerTeam record.
-pub fn joining_of(event: Event) -> Joining
+pub fn joining_of(event: Event) -> Option<PlayerTeam>
     ensures { joining_is result ≡ joining_of (event_is event) }
 {
     match event {
-        Event::TickStart(_) => Joining::Nobody,
-        Event::TickEnd(_) => Joining::Nobody,
-        Event::PlayerNew { .. } => Joining::Nobody,
-        Event::PlayerChange { .. } => Joining::Nobody,
-        Event::PlayerOld { .. } => Joining::Nobody,
-        Event::Input { .. } => Joining::Nobody,
+        Event::TickStart(_) => None,
+        Event::TickEnd(_) => None,
+        Event::PlayerNew { .. } => None,
+        Event::PlayerChange { .. } => None,
+        Event::PlayerOld { .. } => None,
+        Event::Input { .. } => None,
         Event::Record(item) => joining_in(item),
     }
 }
@@ -129,40 +122,40 @@ pub fn good_teams(teams: &[i32; 256]) -> bool
 }
 
 // The team of a client, or none.
-pub fn team_of(teams: &[i32; 256], cid: i32) -> Team
+pub fn team_of(teams: &[i32; 256], cid: i32) -> Option<i32>
     ensures { result ≡ team_of teams.now cid }
 {
     let bits = num::bits(cid);
     if 128 <= bits {
-        return Team::NoTeam;
+        return None;
     }
     let at = 2 * (bits as usize);
     if teams[at] != 1 {
-        return Team::NoTeam;
+        return None;
     }
-    Team::Number(teams[at + 1])
+    Some(teams[at + 1])
 }
 
-pub fn mark_for(team: Team) -> i32
+pub fn mark_for(team: Option<i32>) -> i32
     ensures { result ≡ mark_for team }
 {
     match team {
-        Team::Number(_) => 1,
-        Team::NoTeam => 0,
+        Some(_) => 1,
+        None => 0,
     }
 }
 
-pub fn number_for(team: Team) -> i32
+pub fn number_for(team: Option<i32>) -> i32
     ensures { result ≡ number_for team }
 {
     match team {
-        Team::Number(n) => n,
-        Team::NoTeam => 0,
+        Some(n) => n,
+        None => 0,
     }
 }
 
 // A client's team becomes this one, or none; a client outside 0 to 127 has no entry.
-pub fn put_team(teams: &mut [i32; 256], cid: i32, team: Team)
+pub fn put_team(teams: &mut [i32; 256], cid: i32, team: Option<i32>)
     ensures { teams.new ≡ put_team teams.old cid team }
 {
     let bits = num::bits(cid);
@@ -174,13 +167,13 @@ pub fn put_team(teams: &mut [i32; 256], cid: i32, team: Team)
 }
 
 // The teams after an event; the answer is the former team of the client of a PlayerTeam record.
-pub fn apply(teams: &mut [i32; 256], event: Event) -> Team
+pub fn apply(teams: &mut [i32; 256], event: Event) -> Option<i32>
     ensures { (result ≡ former_team (event_is event) teams.old) × (teams.new ≡ teams_after (event_is event) teams.old) }
 {
-    let Joining::Joins { cid, team } = joining_of(event) else {
-        return Team::NoTeam;
+    let Some(PlayerTeam { cid, team }) = joining_of(event) else {
+        return None;
     };
     let former = team_of(&*teams, cid);
-    put_team(&mut *teams, cid, Team::Number(team));
+    put_team(&mut *teams, cid, Some(team));
     former
 }

@@ -7,7 +7,6 @@ ghost use Rattle.varint.specs.steps.Writing.{wrote, wrote_if};
 ghost use Rattle.packer.specs.Texts.{no_zero, string_bytes, is_data, data_bytes};
 
 use refusal::Refusal;
-use varint::Wrote;
 
 // Bytes that fit, into the target at a place: the place past them.
 fn put(b: &[u8], out: &mut [u8], at: usize) -> usize
@@ -22,17 +21,17 @@ fn put(b: &[u8], out: &mut [u8], at: usize) -> usize
     at + i
 }
 
-pub fn write_raw(b: &[u8], out: &mut [u8], at: usize) -> Wrote
+pub fn write_raw(b: &[u8], out: &mut [u8], at: usize) -> Result<usize, Refusal>
     ensures answer { result ≡ wrote out.old at b.now }
     ensures target { out.new ≡ written out.old at b.now }
 {
     if out.len() < at {
-        return Wrote::Refused(Refusal::ShortTarget);
+        return Err(Refusal::ShortTarget);
     }
     if out.len() - at < b.len() {
-        return Wrote::Refused(Refusal::ShortTarget);
+        return Err(Refusal::ShortTarget);
     }
-    Wrote::Past(put(b, out, at))
+    Ok(put(b, out, at))
 }
 
 pub fn no_zero(b: &[u8]) -> bool
@@ -49,42 +48,42 @@ pub fn no_zero(b: &[u8]) -> bool
 }
 
 // A string and its 00. One that holds a 00 is refused.
-pub fn write_string(b: &[u8], out: &mut [u8], at: usize) -> Wrote
+pub fn write_string(b: &[u8], out: &mut [u8], at: usize) -> Result<usize, Refusal>
     ensures answer { result ≡ wrote_if (no_zero b.now) out.old at (string_bytes b.now) }
     ensures target { out.new ≡ written_if (no_zero b.now) out.old at (string_bytes b.now) }
 {
     if !no_zero(b) {
-        return Wrote::Refused(Refusal::Unwritable);
+        return Err(Refusal::Unwritable);
     }
     if out.len() < at {
-        return Wrote::Refused(Refusal::ShortTarget);
+        return Err(Refusal::ShortTarget);
     }
     if out.len() - at <= b.len() {
-        return Wrote::Refused(Refusal::ShortTarget);
+        return Err(Refusal::ShortTarget);
     }
     let end = put(b, out, at);
     out[end] = 0;
-    Wrote::Past(end + 1)
+    Ok(end + 1)
 }
 
 // A length and the bytes. More than 2147483647 bytes are refused.
-pub fn write_data(b: &[u8], out: &mut [u8], at: usize) -> Wrote
+pub fn write_data(b: &[u8], out: &mut [u8], at: usize) -> Result<usize, Refusal>
     ensures answer { result ≡ wrote_if (is_data b.now) out.old at (data_bytes b.now) }
     ensures target { out.new ≡ written_if (is_data b.now) out.old at (data_bytes b.now) }
 {
     if 2147483647 < b.len() {
-        return Wrote::Refused(Refusal::Unwritable);
+        return Err(Refusal::Unwritable);
     }
     let length = b.len() as i32;
     let size = int_writer::int_size(length) + b.len();
     if out.len() < at {
-        return Wrote::Refused(Refusal::ShortTarget);
+        return Err(Refusal::ShortTarget);
     }
     if out.len() - at < size {
-        return Wrote::Refused(Refusal::ShortTarget);
+        return Err(Refusal::ShortTarget);
     }
-    let Wrote::Past(next) = int_writer::write_int(length, out, at) else {
-        return Wrote::Refused(Refusal::ShortTarget);
+    let Ok(next) = int_writer::write_int(length, out, at) else {
+        return Err(Refusal::ShortTarget);
     };
-    Wrote::Past(put(b, out, next))
+    Ok(put(b, out, next))
 }

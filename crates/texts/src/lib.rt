@@ -9,7 +9,6 @@ ghost use Rattle.texts.specs.Texts.{text_with, line_text, plain_text, told_text,
 use lines::Ending;
 use refusal::Refusal;
 use state::{Answer, Event};
-use varint::Wrote;
 
 // Bytes, of which the first so many count.
 #[derive(Clone, Copy)]
@@ -18,19 +17,12 @@ pub struct Text {
     pub len: usize,
 }
 
-// The bytes that an event used; any other answer ends a body.
-#[derive(Clone, Copy)]
-pub enum Used {
-    Bytes(usize),
-    NoEvent,
-}
-
-fn text_of(bytes: [u8; 138], wrote: Wrote) -> Text
+fn text_of(bytes: [u8; 138], wrote: Result<usize, Refusal>) -> Text
     ensures { result ≡ text_with bytes wrote }
 {
     match wrote {
-        Wrote::Past(len) => Text { bytes, len },
-        Wrote::Refused(_) => Text { bytes, len: 0 },
+        Ok(len) => Text { bytes, len },
+        Err(_) => Text { bytes, len: 0 },
     }
 }
 
@@ -88,13 +80,13 @@ pub fn told(answer: Answer, input: [i32; 10]) -> Text
     }
 }
 
-pub fn used_in(answer: Answer) -> Used
+pub fn used_in(answer: Answer) -> Option<usize>
     ensures { result ≡ used_of answer }
 {
     match answer {
-        Answer::Event { event: _, used } => Used::Bytes(used),
-        Answer::More => Used::NoEvent,
-        Answer::Finish { used: _ } => Used::NoEvent,
-        Answer::Refused(_) => Used::NoEvent,
+        Answer::Event { event: _, used } => Some(used),
+        Answer::More => None,
+        Answer::Finish { used: _ } => None,
+        Answer::Refused(_) => None,
     }
 }

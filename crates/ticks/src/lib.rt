@@ -10,18 +10,18 @@ ghost use Rattle.state.specs.Views.{event_is};
 ghost use Rattle.state.specs.steps.Inside.{done};
 ghost use Rattle.state.specs.steps.Inside.{no_entry};
 
-use kinds::{Cid, Kind};
+use kinds::Kind;
 use refusal::Refusal;
-use state::{Answer, Event, Next, Outcome, Pending, Rule, Scalars, Standing};
+use state::{Answer, Event, Outcome, Rule, Scalars, Standing};
 
 // The scalars that a call leaves; the version stays.
 fn turn(
     s: Scalars,
     tick: i32,
     inside: bool,
-    remembered: Cid,
+    remembered: Option<i32>,
     largest: i32,
-    pending: Pending,
+    pending: Option<Kind>,
     standing: Standing,
 ) -> Scalars
     ensures { result ≡ turned s tick inside remembered largest pending standing }
@@ -43,7 +43,7 @@ pub fn closed(s: Scalars, by: Standing) -> Scalars
     ensures { result ≡ closing by s }
 {
     let remembered = s.remembered;
-    let none = Pending::NoKind;
+    let none = None;
     turn(s, s.tick, s.inside, remembered, s.largest, none, by)
 }
 
@@ -96,22 +96,22 @@ fn larger_of(a: i32, b: i32) -> i32
     if a < b { b } else { a }
 }
 
-fn raised_to(largest: i32, cid: Cid) -> i32
+fn raised_to(largest: i32, cid: Option<i32>) -> i32
     ensures { result ≡ raised_to largest cid }
 {
-    let Cid::Of(c) = cid else {
+    let Some(c) = cid else {
         return largest;
     };
     larger_of(largest, c)
 }
 
 // After a record whose client this is.
-pub fn raised(s: Scalars, cid: Cid) -> Scalars
+pub fn raised(s: Scalars, cid: Option<i32>) -> Scalars
     ensures { result ≡ raising cid s }
 {
     let remembered = s.remembered;
     let largest = raised_to(s.largest, cid);
-    let none = Pending::NoKind;
+    let none = None;
     let standing = s.standing;
     turn(s, s.tick, s.inside, remembered, largest, none, standing)
 }
@@ -121,13 +121,19 @@ pub fn named(s: Scalars, cid: i32) -> Scalars
     ensures { result ≡ naming cid s }
 {
     let largest = larger_of(s.largest, cid);
-    let none = Pending::NoKind;
+    let none = None;
     let standing = s.standing;
-    turn(s, s.tick, s.inside, Cid::Of(cid), largest, none, standing)
+    turn(s, s.tick, s.inside, Some(cid), largest, none, standing)
 }
 
 // At the start or the end of a tick.
-fn ticked(s: Scalars, tick: i32, inside: bool, remembered: Cid, pending: Pending) -> Scalars
+fn ticked(
+    s: Scalars,
+    tick: i32,
+    inside: bool,
+    remembered: Option<i32>,
+    pending: Option<Kind>,
+) -> Scalars
     ensures { result ≡ ticking tick inside remembered pending s }
 {
     let standing = s.standing;
@@ -139,21 +145,21 @@ pub fn started(s: Scalars, kind: Kind) -> Scalars
     ensures { result ≡ starting kind s }
 {
     let remembered = s.remembered;
-    ticked(s, s.tick, true, remembered, Pending::Is(kind))
+    ticked(s, s.tick, true, remembered, Some(kind))
 }
 
 // A tick ends, and the kind is pending.
-pub fn ended(s: Scalars, tick: i32, remembered: Cid, kind: Kind) -> Scalars
+pub fn ended(s: Scalars, tick: i32, remembered: Option<i32>, kind: Kind) -> Scalars
     ensures { result ≡ ending tick remembered kind s }
 {
-    ticked(s, tick, false, remembered, Pending::Is(kind))
+    ticked(s, tick, false, remembered, Some(kind))
 }
 
 // After a TickSkip nothing is pending, and no client is remembered.
 fn skipped_to(s: Scalars, tick: i32, inside: bool) -> Scalars
     ensures { result ≡ skipping tick inside s }
 {
-    ticked(s, tick, inside, Cid::NoCid, Pending::NoKind)
+    ticked(s, tick, inside, None, None)
 }
 
 fn wide(x: u32) -> u64
@@ -162,25 +168,25 @@ fn wide(x: u32) -> u64
     x as u64
 }
 
-fn next_tick(tick: i32, k: u32) -> Next
+fn next_tick(tick: i32, k: u32) -> Option<i32>
     ensures { result ≡ next_tick tick k }
 {
     let b = wide(num::bits(tick));
     if 2147483648 <= b {
-        return Next::Past;
+        return None;
     }
     let to = b + wide(k) + 1;
     if 2147483648 <= to {
-        return Next::Past;
+        return None;
     }
-    Next::Tick(to as i32)
+    Some(to as i32)
 }
 
 pub fn tick_skip(s: Scalars, dt: u32, used: usize) -> Outcome
     ensures { (m : Memory) → done result m ≡ tick_skip s m dt used }
 {
     let tick = s.tick;
-    let Next::Tick(t) = next_tick(tick, dt) else {
+    let Some(t) = next_tick(tick, dt) else {
         return refuse(s, Refusal::TickOverflow);
     };
     if s.inside {
@@ -196,14 +202,14 @@ fn player_rule(s: Scalars, cid: i32) -> Rule
         return Rule::Starts;
     }
     let prev = s.remembered;
-    let Cid::Of(p) = prev else {
+    let Some(p) = prev else {
         return Rule::Reads;
     };
     if p < cid {
         return Rule::Reads;
     }
     let tick = s.tick;
-    let Next::Tick(t) = next_tick(tick, 0) else {
+    let Some(t) = next_tick(tick, 0) else {
         return Rule::Over;
     };
     Rule::Ends(t)

@@ -1,4 +1,5 @@
 -- What is read without a remark is the written form. Assumes nothing.
+use Rattle.std.specs.Prelude.{None}
 use Prim.Native.Nat.{ℕ, zero, suc, ◌+◌, ◌*◌, ◌-◌, ◌/◌, ◌%◌, ◌≤◌, ◌<◌}
 use mathlib.Core.Path.{◌≡◌, refl, sym, ◌∙◌, ap}
 use mathlib.Core.List.{List, [], ◌∷◌, ◌++◌}
@@ -20,7 +21,7 @@ use Rattle.varint.specs.Written.{sign_bit, extend, first_byte, later_byte, later
 use Rattle.num.proofs.Cases.{by_bool}
 use Rattle.varint.proofs.Writing.{later_none, later_cons}
 use Rattle.varint.proofs.RoundTrip.{room, parts, next_weight}
-use Rattle.varint.specs.declared.Remark.TheVariants.{None, Overlong, Padding}
+use Rattle.varint.specs.declared.Remark.TheVariants.{Overlong, Padding}
 use Rattle.varint.specs.declared.IntRead.{IntRead}
 use Rattle.varint.specs.declared.IntRead.TheVariants.{Got, RunsOut}
 

@@ -1,4 +1,5 @@
 -- Laws of the definitions of specs/Integers.antt. Assumes nothing.
+use Rattle.std.specs.Prelude.{None}
 use Prim.Native.Nat.{ℕ, zero, suc, ◌+◌, ◌*◌, ◌-◌, ◌≤◌, ◌<◌}
 use mathlib.Core.Path.{◌≡◌, refl}
 use mathlib.Core.List.{List, [], ◌∷◌}
@@ -10,7 +11,6 @@ use lib.ListN.{length, get_or, drop}
 use lib.Seq.{drop-cons}
 use lib.Dec.{eqb}
 use Rattle.varint.specs.Integers.{weight, digits, amount, sign_of, value_of, is_last, remark_of, read_from, read_int}
-use Rattle.varint.specs.declared.Remark.TheVariants.{None}
 use Rattle.varint.specs.declared.IntRead.TheVariants.{Got, RunsOut}
 
 -- the sum of the first k bytes is below this: the weight of the next one, and of all five 2 to the power 32

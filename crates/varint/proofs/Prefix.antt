@@ -1,4 +1,5 @@
 -- An integer that stands at a place of a list: read back, within 32 bits, and not changed by what follows. Assumes nothing.
+use Rattle.std.specs.Prelude.{Option, None}
 use Prim.Native.Nat.{ℕ, ◌+◌, ◌-◌, ◌≤◌, ◌<◌}
 use mathlib.Core.Path.{◌≡◌, refl, sym, ◌∙◌}
 use mathlib.Core.List.{List, [], ◌∷◌, ◌++◌}
@@ -18,7 +19,6 @@ use Rattle.num.proofs.Signs.{reads_fit}
 use Rattle.varint.proofs.RoundTrip.{from_start}
 use Rattle.varint.proofs.Back.{read_canonical}
 use Rattle.varint.specs.declared.Remark.{Remark}
-use Rattle.varint.specs.declared.Remark.TheVariants.{None}
 use Rattle.varint.specs.declared.IntRead.TheVariants.{Got}
 
 -- the reading depends on the bytes from its place on
@@ -42,7 +42,7 @@ int_whole s at next v b r =
     let n : next - at ≡ length (canonical v) = omega (arith, g.1) in
     (sym (take-append-drop (next - at) (drop at s)) ∙ rw (g.0, drop-drop, n, ← g.1), g.1)
 
-module _ (at sign : ℕ) (v : ℤ) (next : ℕ) (r : Remark) where
+module _ (at sign : ℕ) (v : ℤ) (next : ℕ) (r : Option Remark) where
   from_prefix : (xs t : List ℕ) (k n : ℕ) → read_from xs at k sign n ≡ Got v next r → read_from (xs ++ t) at k sign n ≡ Got v next r
   unfolding read_from
   from_prefix [] t k n e = let z : ◌≡◌ {A = ℕ} 0 1 = cc in absurd (omega arith)
@@ -66,7 +66,7 @@ value_fits : (sign n : ℕ) → SFits w32 (value_of sign n)
 unfolding value_of
 value_fits sign n = reads_fit (cond (eqb sign 0) n (4294967295 - n))
 
-from_fits : (xs : List ℕ) (at k sign n next : ℕ) (v : ℤ) (r : Remark) → read_from xs at k sign n ≡ Got v next r → SFits w32 v
+from_fits : (xs : List ℕ) (at k sign n next : ℕ) (v : ℤ) (r : Option Remark) → read_from xs at k sign n ≡ Got v next r → SFits w32 v
 unfolding read_from
 from_fits [] at k sign n next v r e = let z : ◌≡◌ {A = ℕ} 0 1 = cc in absurd (omega arith)
 from_fits (b ∷ xs) at k sign n next v r e =
@@ -78,16 +78,16 @@ from_fits (b ∷ xs) at k sign n next v r e =
     (λ l. from_fits xs at (k + 1) sign _ next v r (rw l at e))
 
 -- what is read is a number of 32 bits
-pub int_fits : (s : List ℕ) (at : ℕ) (v : ℤ) (next : ℕ) (r : Remark) → read_int s at ≡ Got v next r → SFits w32 v
+pub int_fits : (s : List ℕ) (at : ℕ) (v : ℤ) (next : ℕ) (r : Option Remark) → read_int s at ≡ Got v next r → SFits w32 v
 unfolding read_int
 int_fits s at v next r e = from_fits (drop at s) at 0 (sign_of (get_or s at 0)) 0 next v r e
 
-first_same : (xs t : List ℕ) (v : ℤ) (at next : ℕ) (r : Remark) → read_from xs at 0 (sign_of (get_or xs 0 0)) 0 ≡ Got v next r → get_or (xs ++ t) 0 0 ≡ get_or xs 0 0
+first_same : (xs t : List ℕ) (v : ℤ) (at next : ℕ) (r : Option Remark) → read_from xs at 0 (sign_of (get_or xs 0 0)) 0 ≡ Got v next r → get_or (xs ++ t) 0 0 ≡ get_or xs 0 0
 unfolding read_from
 first_same [] t v at next r e = let z : ◌≡◌ {A = ℕ} 0 1 = cc in absurd (omega arith)
 first_same (b ∷ xs) t v at next r e = refl
 
-module _ (s : List ℕ) (at : ℕ) (v : ℤ) (next : ℕ) (r : Remark) (h : at ≤ length s) (e : read_int s at ≡ Got v next r) where
+module _ (s : List ℕ) (at : ℕ) (v : ℤ) (next : ℕ) (r : Option Remark) (h : at ≤ length s) (e : read_int s at ≡ Got v next r) where
   pub int_prefix : (t : List ℕ) → read_int (s ++ t) at ≡ Got v next r
   int_prefix t =
       let q = sym (from_drop s at) ∙ e in

@@ -1,4 +1,5 @@
 -- The written form is read back: its value, no remark, all its bytes used. Assumes nothing.
+use Rattle.std.specs.Prelude.{None}
 use Prim.Native.Nat.{ℕ, zero, suc, ◌+◌, ◌*◌, ◌-◌, ◌/◌, ◌%◌, ◌≤◌, ◌<◌}
 use mathlib.Core.Path.{◌≡◌, refl, sym, ◌∙◌, ap}
 use mathlib.Core.List.{List, [], ◌∷◌, ◌++◌, append_assoc}
@@ -20,7 +21,7 @@ use Rattle.varint.specs.Integers.{weight, amount, sign_of, value_of, remark_of, 
 use Rattle.varint.specs.Written.{sign_bit, extend, first_byte, later_byte, later_bytes, canonical}
 use Rattle.num.proofs.Cases.{by_eq}
 use Rattle.varint.proofs.Writing.{later_none, later_cons}
-use Rattle.varint.specs.declared.Remark.TheVariants.{None, Overlong, Padding}
+use Rattle.varint.specs.declared.Remark.TheVariants.{Overlong, Padding}
 use Rattle.varint.specs.declared.IntRead.{IntRead}
 use Rattle.varint.specs.declared.IntRead.TheVariants.{Got, RunsOut}
 

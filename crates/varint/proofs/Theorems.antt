@@ -1,4 +1,5 @@
 -- The statements of specs/Laws.antt. Assumes nothing.
+use Rattle.std.specs.Prelude.{Ok, Err}
 use Prim.Native.Nat.{ℕ, ◌+◌, ◌≤◌, ◌<◌}
 use mathlib.Core.Path.{◌≡◌, refl, sym, ◌∙◌, ap}
 use mathlib.Core.Bool.{Bool, true, false, cond}
@@ -17,7 +18,6 @@ use Rattle.varint.specs.steps.Writing.{wrote}
 use Rattle.varint.specs.Laws.{FirstWeights, IntWrittenReads, IntReadsWritten, WritersSay, Steady, Shorter, int_out, IntSteady}
 use Rattle.varint.specs.declared.IntRead.{IntRead}
 use Rattle.varint.specs.declared.IntRead.TheVariants.{Got, RunsOut}
-use Rattle.varint.specs.declared.Wrote.TheVariants.{Past, Refused}
 use Rattle.varint.proofs.RoundTrip.{canonical_read}
 use Rattle.varint.proofs.Back.{read_canonical}
 use Rattle.varint.proofs.Prefix.{int_prefix}
@@ -31,7 +31,7 @@ written_reads = canonical_read
 pub reads_written : IntReadsWritten
 reads_written = read_canonical
 
-fits_say : (fits : Bool) (next : ℕ) → wrote_said (cond fits (Past next) (Refused ShortTarget)) ≡ cond fits (gives next 0) (refusing ShortTarget)
+fits_say : (fits : Bool) (next : ℕ) → wrote_said (cond fits (Ok next) (Err ShortTarget)) ≡ cond fits (gives next 0) (refusing ShortTarget)
 fits_say true next = refl
 fits_say false next = refl
 

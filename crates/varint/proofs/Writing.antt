@@ -1,4 +1,5 @@
 -- Laws of the definitions of specs/Written.antt. Assumes nothing.
+use Rattle.std.specs.Prelude.{Ok, Err}
 use Prim.Native.Nat.{ℕ, zero, suc, ◌+◌, ◌-◌, ◌/◌, ◌^◌, ◌≤◌, ◌<◌}
 use mathlib.Core.Path.{◌≡◌, refl}
 use mathlib.Core.List.{List, [], ◌∷◌}
@@ -15,7 +16,6 @@ use borrow.Author.Tests.{ne_eqb, le-leb, lt-leb}
 use Rattle.varint.specs.Written.{sign_bit, extend, later_byte, later_bytes, canonical, written}
 use Rattle.varint.specs.steps.Writing.{wrote}
 use Rattle.refusal.specs.declared.Refusal.TheVariants.{ShortTarget}
-use Rattle.varint.specs.declared.Wrote.TheVariants.{Past, Refused}
 
 pub sign_bit_le : (z : ℤ) → sign_bit z ≤ 64
 sign_bit_le (pos n) = omega arith
@@ -61,11 +61,11 @@ module _ (xs : List ℕ) (at : ℕ) (bs : List ℕ) where
   unfolding written
   fits_written h = simp (le-leb (at + length bs) (length xs) h) (sets-eq bs xs at h)
 
-  pub fits_answer : at + length bs ≤ length xs → Past (at + length bs) ≡ wrote xs at bs
+  pub fits_answer : at + length bs ≤ length xs → Ok (at + length bs) ≡ wrote xs at bs
   unfolding wrote
   fits_answer h = simp (le-leb (at + length bs) (length xs) h)
 
-  pub short : length xs < at + length bs → (Refused ShortTarget ≡ wrote xs at bs) × (xs ≡ written xs at bs)
+  pub short : length xs < at + length bs → (Err ShortTarget ≡ wrote xs at bs) × (xs ≡ written xs at bs)
   unfolding written wrote
   short h = (simp (lt-leb (at + length bs) (length xs) h), simp (lt-leb (at + length bs) (length xs) h))
 

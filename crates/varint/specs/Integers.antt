@@ -1,9 +1,9 @@
 -- Reading an integer. docs/FORMAT.md, "Integers". Bytes and digits are naturals; only a value is a ℤ.
-use Rattle.std.specs.Prelude.{ℕ, ◌+◌, ◌-◌, ◌*◌, ◌/◌, ◌%◌, ◌^◌, Bool, true, cond, List, [], ◌∷◌, get_or, drop, ltb, eqb, ℤ}
+use Rattle.std.specs.Prelude.{ℕ, ◌+◌, ◌-◌, ◌*◌, ◌/◌, ◌%◌, ◌^◌, Bool, true, cond, List, [], ◌∷◌, get_or, drop, ltb, eqb, ℤ, Option, Some, None}
 use Rattle.std.specs.Int.{w32}
 use Rattle.std.proofs.Common.{to_z}
 use Rattle.varint.specs.declared.Remark.{Remark}
-use Rattle.varint.specs.declared.Remark.TheVariants.{None, Overlong, Padding}
+use Rattle.varint.specs.declared.Remark.TheVariants.{Overlong, Padding}
 use Rattle.varint.specs.declared.IntRead.{IntRead}
 use Rattle.varint.specs.declared.IntRead.TheVariants.{Got, RunsOut}
 
@@ -34,8 +34,8 @@ is_last k b = cond (eqb k 4) true (ltb b 128)
 
 -- the remark on a number whose last byte is b, at k: overlong if there are several bytes and the last is 00, else padding if a
 -- fifth byte has any of its four high bits set
-unfoldable pub remark_of : ℕ → ℕ → Remark
-remark_of k b = cond (eqb k 0) None (cond (eqb b 0) Overlong (cond (eqb k 4) (cond (ltb b 16) None Padding) None))
+unfoldable pub remark_of : ℕ → ℕ → Option Remark
+remark_of k b = cond (eqb k 0) None (cond (eqb b 0) (Some Overlong) (cond (eqb k 4) (cond (ltb b 16) None (Some Padding)) None))
 
 -- the rest of a number that begins at `at`, from byte k on, with the sign and the sum of the bytes before
 unfoldable pub read_from : List ℕ → ℕ → ℕ → ℕ → ℕ → IntRead

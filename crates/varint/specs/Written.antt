@@ -1,11 +1,10 @@
 -- The written form of an integer: the one without a remark. What a target holds after bytes are written there, and the answer.
 -- docs/FORMAT.md, "Integers" and "The writer".
-use Rattle.std.specs.Prelude.{ℕ, zero, suc, ◌+◌, ◌/◌, ◌%◌, Bool, cond, List, [], ◌∷◌, ◌++◌, length, take, drop, leb, eqb, ℤ, pos, negsuc}
+use Rattle.std.specs.Prelude.{ℕ, zero, suc, ◌+◌, ◌/◌, ◌%◌, Bool, cond, List, [], ◌∷◌, ◌++◌, length, take, drop, leb, eqb, ℤ, pos, negsuc, Result, Ok, Err}
 use Rattle.std.specs.Int.Signed.{mag}
+use Rattle.refusal.specs.declared.Refusal.{Refusal}
 use Rattle.refusal.specs.Said.{Said, gives, refusing}
 use Rattle.refusal.specs.declared.Refusal.TheVariants.{ShortTarget, Unwritable}
-use Rattle.varint.specs.declared.Wrote.{Wrote}
-use Rattle.varint.specs.declared.Wrote.TheVariants.{Past, Refused}
 
 -- `mag z` is n for n and for -(n + 1): the digits of z
 abbrev pub sign_bit : ℤ → ℕ
@@ -46,9 +45,9 @@ written_if ok xs at bs = cond ok (written xs at bs) xs
 -- ---- what writing says
 
 -- of no bytes used: the place past the bytes written
-abbrev pub wrote_said : Wrote → Said ℕ
-wrote_said (Past next) = gives next 0
-wrote_said (Refused r) = refusing r
+abbrev pub wrote_said : Result ℕ Refusal → Said ℕ
+wrote_said (Ok next) = gives next 0
+wrote_said (Err r) = refusing r
 
 -- 11 where there is no written form; 9 where it doesn't fit; else the place past it
 unfoldable pub writing : Bool → List ℕ → ℕ → List ℕ → Said ℕ

@@ -9,7 +9,6 @@ use refusal::Refusal;
 // What stands out in a number's bytes. It never refuses.
 #[derive(Clone, Copy)]
 pub enum Remark {
-    None,
     Overlong,
     Padding,
 }
@@ -20,16 +19,9 @@ pub enum IntRead {
     Got {
         value: i32,
         next: usize,
-        remark: Remark,
+        remark: Option<Remark>,
     },
     RunsOut,
-}
-
-// What writing answers: the place past the bytes written, or a refusal.
-#[derive(Clone, Copy)]
-pub enum Wrote {
-    Past(usize),
-    Refused(Refusal),
 }
 
 // The digits of byte k.
@@ -71,22 +63,22 @@ fn value_of(sign: u8, n: u32) -> i32
     }
 }
 
-fn remark_of(k: usize, b: u8) -> Remark
+fn remark_of(k: usize, b: u8) -> Option<Remark>
     ensures { result ≡ remark_of k b }
 {
     if k == 0 {
-        return Remark::None;
+        return None;
     }
     if b == 0 {
-        return Remark::Overlong;
+        return Some(Remark::Overlong);
     }
     if k == 4 {
         if b < 16 {
-            return Remark::None;
+            return None;
         }
-        return Remark::Padding;
+        return Some(Remark::Padding);
     }
-    Remark::None
+    None
 }
 
 fn is_last(k: usize, b: u8) -> bool
@@ -142,7 +134,7 @@ pub fn read_int(s: &[u8], at: usize) -> IntRead
         return IntRead::Got {
             value: short_value(b),
             next: at + 1,
-            remark: Remark::None,
+            remark: None,
         };
     }
     read_bytes(s, at)

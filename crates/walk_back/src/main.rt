@@ -5,12 +5,12 @@
 #![tactic(auto)]
 
 use back::{BackAnswer, SteppedBack, TeamBoard};
-use kinds::{Version, VersionOf};
+use kinds::Version;
 use refusal::Refusal;
 use state::Answer;
 use team_reading::TeamRead;
 use teams::TeamReader;
-use texts::{Text, Used};
+use texts::Text;
 
 const STDOUT_FILENO: i32 = 1;
 
@@ -49,7 +49,7 @@ fn past(spot: Spot, read: TeamRead, len: usize) -> Spot {
         reader: left,
         teams,
     };
-    let Used::Bytes(used) = texts::used_in(answer) else {
+    let Some(used) = texts::used_in(answer) else {
         next.over = true;
         return next;
     };
@@ -148,7 +148,7 @@ fn walk(version: Version, body: &[u8]) {
 }
 
 fn run_case(input: &[u8]) {
-    let VersionOf::Is(version) = kinds::version_of(cases::first(input)) else {
+    let Ok(version) = kinds::version_of(cases::first(input)) else {
         return;
     };
     walk(version, cases::window(input, 1, input.len()));

@@ -13,7 +13,7 @@ use item::{Item, Record};
 use kinds::Version;
 use packer::Part;
 use record_call::CallAnswer;
-use varint::Wrote;
+use refusal::Refusal;
 
 const STDOUT_FILENO: i32 = 1;
 
@@ -44,7 +44,7 @@ fn print_refused(number: u8) {
 #[derive(Clone, Copy)]
 struct Target {
     bytes: [u8; 512],
-    wrote: Wrote,
+    wrote: Result<usize, Refusal>,
 }
 
 fn write_at(version: Version, value: Record, w: &[u8], at: usize) -> Target {
@@ -54,18 +54,18 @@ fn write_at(version: Version, value: Record, w: &[u8], at: usize) -> Target {
 }
 
 // The place past the record; 0 in a refusal.
-fn end_of(wrote: Wrote) -> usize {
+fn end_of(wrote: Result<usize, Refusal>) -> usize {
     match wrote {
-        Wrote::Past(end) => end,
-        Wrote::Refused(_) => 0,
+        Ok(end) => end,
+        Err(_) => 0,
     }
 }
 
 // The number of the refusal; 0 if it is written.
-fn refused(wrote: Wrote) -> u8 {
+fn refused(wrote: Result<usize, Refusal>) -> u8 {
     match wrote {
-        Wrote::Past(_) => 0,
-        Wrote::Refused(r) => r.number(),
+        Ok(_) => 0,
+        Err(r) => r.number(),
     }
 }
 
@@ -112,8 +112,8 @@ fn print_wrote(target: Target) {
     let bytes = target.bytes;
     let wrote = target.wrote;
     match wrote {
-        Wrote::Past(end) => print_bytes(cases::window(&bytes, 3, end)),
-        Wrote::Refused(r) => print_refused(r.number()),
+        Ok(end) => print_bytes(cases::window(&bytes, 3, end)),
+        Err(r) => print_refused(r.number()),
     }
 }
 
@@ -127,8 +127,8 @@ fn right(version: Version, value: Record, w: &[u8], target: Target) -> bool {
     let bytes = target.bytes;
     let wrote = target.wrote;
     match wrote {
-        Wrote::Past(end) => agrees(version, value, w, bytes, end),
-        Wrote::Refused(_) => untouched(bytes, 0, 512),
+        Ok(end) => agrees(version, value, w, bytes, end),
+        Err(_) => untouched(bytes, 0, 512),
     }
 }
 

@@ -1,4 +1,5 @@
 -- What is read ends at or past the place where it begins, an integer past it. Assumes nothing.
+use Rattle.std.specs.Prelude.{Option, Some, None}
 use Prim.Native.Nat.{ℕ, zero, suc, ◌+◌, ◌≤◌, ◌<◌}
 use mathlib.Core.Bool.{Bool, true, false, cond}
 use mathlib.Core.List.{List, [], ◌∷◌, ◌++◌}
@@ -21,8 +22,6 @@ use Rattle.kinds.specs.Kinds.{kind_of, read_kind}
 use Rattle.kinds.specs.steps.Kinds.{with_client, after_number}
 use Rattle.extensions.specs.Extensions.{Payload, shaped, all_data, find, payload_at}
 use Rattle.extensions.specs.declared.Extension.{Extension}
-use Rattle.extensions.specs.declared.Found.{Found}
-use Rattle.extensions.specs.declared.Found.TheVariants.{Known, Unknown}
 use Rattle.item.specs.Records.{Rest, fields, extension, Content, as_content, of_payload, of_found, read_ex, read_as, rest_of, read_rest}
 use Rattle.item.specs.steps.Reading.{up_to, after_data, after_id}
 use Rattle.kinds.specs.declared.Version.{Version}
@@ -203,9 +202,9 @@ payload_past : (s : List ℕ) (at : ℕ) (p : Part) (k : Extension) (y : Payload
 payload_past s at p k (shaped fs) next h = upto_past at next (as_content (Named k) (read_fields fs (take next s) p.at)) h
 payload_past s at p k all_data next h = h
 
-found_past : (s : List ℕ) (at : ℕ) (id p : Part) (f : Found) (next : ℕ) → at ≤ next → Past at (of_found s id p f next)
-found_past s at id p (Known k) next h = payload_past s at p k (payload_at k) next h
-found_past s at id p Unknown next h = h
+found_past : (s : List ℕ) (at : ℕ) (id p : Part) (f : Option Extension) (next : ℕ) → at ≤ next → Past at (of_found s id p f next)
+found_past s at id p (Some k) next h = payload_past s at p k (payload_at k) next h
+found_past s at id p None next h = h
 
 after_data_law : (s : List ℕ) (at : ℕ) (id : Part) (x : DataRead) → DataPast at x → Past at (after_data s id x)
 after_data_law s at id (blobs.Got p next) h = found_past s at id p (find (shown s id)) next h

@@ -1,5 +1,6 @@
 -- A record that is written and read again: the same meaning, exactly the written bytes used, no remark, whatever follows. Assumes
 -- nothing.
+use Rattle.std.specs.Prelude.{Option, Some, None}
 use Prim.Native.Nat.{ℕ, ◌+◌, ◌-◌}
 use mathlib.Core.Path.{◌≡◌, refl, sym, ◌∙◌, ap}
 use mathlib.Core.Bool.{true, false≢true, ◌&&◌}
@@ -17,8 +18,6 @@ use Rattle.fields.proofs.Answers.{and_split}
 use Rattle.fields.proofs.Back.{all_back}
 use Rattle.extensions.specs.Extensions.{Payload, shaped, all_data, id_at, payload_at, find, is_unknown}
 use Rattle.extensions.specs.declared.Extension.{Extension}
-use Rattle.extensions.specs.declared.Found.{Found}
-use Rattle.extensions.specs.declared.Found.TheVariants.{Known, Unknown}
 use Rattle.item.specs.Records.{content, Rest, fields, extension, rest_of, of_payload, of_found, read_rest, read_record}
 use Rattle.item.specs.Remarks.{payload_remarks, found_remarks, record_remarks}
 use Rattle.item.specs.Contents.{own_payload}
@@ -87,7 +86,7 @@ two_parts (bytes b ∷ ms) sorted = (sorted.0, ap (λ l. bytes b ∷ l) (one_par
 two_parts (strings bs ∷ ms) sorted = absurd sorted.0
 
 -- what reading an extension's data says, where x is what the identifier is found as
-abbrev LoadReads : List ℕ → ℕ → List ℕ → List ℕ → Found → Tag → List (Value (List ℕ)) → Type 0
+abbrev LoadReads : List ℕ → ℕ → List ℕ → List ℕ → Option Extension → Tag → List (Value (List ℕ)) → Type 0
 LoadReads s at id load x t ms =
     (meant s (of_found s (id_part at id) (load_part at id load) x (end_at at id load)) ≡ got (content t ms) (end_at at id load))
     × (found_remarks s (load_part at id load) x (end_at at id load) ≡ 0)
@@ -141,9 +140,9 @@ module _ (id load after : List ℕ) where
       omega (arith, length-append c [], length-append c (id ++ data_bytes load), length-append id (data_bytes load)) in
       (rw (r.reads, f.reads, n) q.0, rw r.reads (omega (arith, r.clean, f.remarked, q.1)))
 
-is_unknown_law : (x : Found) → is_unknown x ≡ true → x ≡ Unknown
-is_unknown_law (Known k) e = absurd (false≢true e)
-is_unknown_law Unknown e = refl
+is_unknown_law : (x : Option Extension) → is_unknown x ≡ true → x ≡ None
+is_unknown_law (Some k) e = absurd (false≢true e)
+is_unknown_law None e = refl
 
 named_back : (v : Version) (k : Extension) (ms : List (Value (List ℕ))) → SortedContent (Named k) ms → tag_writable v (Named k) ms ≡ true → (after : List ℕ)
     → Reads v (tag_bytes (Named k) ms ++ after) (Named k) ms (length (tag_bytes (Named k) ms))

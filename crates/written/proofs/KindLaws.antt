@@ -1,5 +1,6 @@
 -- The kind that a number says: three sorts of answer, for all numbers. What was read as a kind, and a kind that stands at a place.
 -- Assumes nothing.
+use Rattle.std.specs.Prelude.{Option, None}
 use Prim.Native.Nat.{ℕ, zero, suc, ◌+◌, ◌≤◌}
 use mathlib.Core.Path.{◌≡◌, refl, sym, ◌∙◌, ap}
 use mathlib.Core.Bool.{true, false≢true}
@@ -15,7 +16,6 @@ use Rattle.varint.specs.Integers.{read_int}
 use Rattle.varint.specs.Written.{canonical}
 use Rattle.varint.specs.Laws.{Bytes}
 use Rattle.varint.specs.declared.Remark.{Remark}
-use Rattle.varint.specs.declared.Remark.TheVariants.{None}
 use Rattle.varint.specs.declared.IntRead.{IntRead}
 use Rattle.varint.specs.declared.IntRead.TheVariants as ints
 use Rattle.varint.proofs.Prefix.{canonical_at}
@@ -59,7 +59,7 @@ pub data Sort (v : Version) (z : ℤ) : Type 0 where
   player :
       (make : ℤ → Kind)
       → ((c : ℤ) → Numbered v z (make c) (canonical c))
-      → ((c : ℤ) (s : List ℕ) (n : ℕ) (r : Remark) → client_remark (make c) s (ints.Got z n r) ≡ remark_in (read_int s n))
+      → ((c : ℤ) (s : List ℕ) (n : ℕ) (r : Option Remark) → client_remark (make c) s (ints.Got z n r) ≡ remark_in (read_int s n))
       → ((s : List ℕ) (n : ℕ) → kind_of v s z n ≡ with_client make (read_int s n))
       → Sort v z
   none : (r : Refusal) → ((s : List ℕ) (n : ℕ) → kind_of v s z n ≡ refused r) → Sort v z
@@ -109,7 +109,7 @@ pub record KindTaken (v : Version) (s : List ℕ) (at : ℕ) (k : Kind) (next : 
   pub allowed : Allowed v k (rest_of k)
   pub whole : Bytes s → kind_remarks k s at ≡ 0 → drop at s ≡ kind_bytes k ++ drop next s
 
-module _ (v : Version) (s : List ℕ) (at : ℕ) (h : at ≤ length s) (z : ℤ) (n : ℕ) (r : Remark) (e : read_int s at ≡ ints.Got z n r) where
+module _ (v : Version) (s : List ℕ) (at : ℕ) (h : at ≤ length s) (z : ℤ) (n : ℕ) (r : Option Remark) (e : read_int s at ≡ ints.Got z n r) where
   alone_taken : (k : Kind) → Numbered v z k [] → KindTaken v s at k n
   alone_taken k x =
       let t = field_taken s at h int (num z) n (rw e) in
@@ -120,7 +120,7 @@ module _ (v : Version) (s : List ℕ) (at : ℕ) (h : at ≤ length s) (z : ℤ)
       }
 
   player_taken : (k : Kind) (c : ℤ) → Numbered v z k (canonical c) → client_remark k s (ints.Got z n r) ≡ remark_in (read_int s n)
-      → (m : ℕ) (p : Remark) → read_int s n ≡ ints.Got c m p → KindTaken v s at k m
+      → (m : ℕ) (p : Option Remark) → read_int s n ≡ ints.Got c m p → KindTaken v s at k m
   player_taken k c x mark m p f =
       let t = field_taken s at h int (num z) n (rw e) in
       let u = field_taken s n t.within int (num c) m (rw f) in

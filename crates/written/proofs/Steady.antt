@@ -1,4 +1,5 @@
 -- Bytes behind a record never matter: an answer other than that the bytes run out stays. Assumes nothing.
+use Rattle.std.specs.Prelude.{Option, Some, None}
 use Prim.Native.Nat.{ℕ, ◌≤◌}
 use mathlib.Core.Path.{◌≡◌, refl, sym, ◌∙◌, ap}
 use mathlib.Core.Bool.{false, false≢true}
@@ -25,8 +26,6 @@ use Rattle.kinds.specs.Kinds.{kind_of, read_kind}
 use Rattle.kinds.specs.steps.Kinds.{with_client, after_number}
 use Rattle.extensions.specs.Extensions.{Payload, shaped, all_data, find, payload_at}
 use Rattle.extensions.specs.declared.Extension.{Extension}
-use Rattle.extensions.specs.declared.Found.{Found}
-use Rattle.extensions.specs.declared.Found.TheVariants.{Known, Unknown}
 use Rattle.item.specs.Records.{Rest, fields, extension, rest_of, as_content, of_payload, of_found, read_ex, read_as, read_rest, read_record}
 use Rattle.item.specs.steps.Reading.{after_data, after_id, after_kind}
 use Rattle.kinds.specs.declared.Version.{Version}
@@ -59,9 +58,9 @@ payload_steady : (s t : List ℕ) (p : Part) (k : Extension) (l : Payload) (n : 
 payload_steady s t p k (shaped fs) n h = rw (take-append-le n s t h)
 payload_steady s t p k all_data n h = refl
 
-found_steady : (s t : List ℕ) (id p : Part) (f : Found) (n : ℕ) → n ≤ length s → of_found (s ++ t) id p f n ≡ of_found s id p f n
-found_steady s t id p (Known k) n h = payload_steady s t p k (payload_at k) n h
-found_steady s t id p Unknown n h = refl
+found_steady : (s t : List ℕ) (id p : Part) (f : Option Extension) (n : ℕ) → n ≤ length s → of_found (s ++ t) id p f n ≡ of_found s id p f n
+found_steady s t id p (Some k) n h = payload_steady s t p k (payload_at k) n h
+found_steady s t id p None n h = refl
 
 data_steady : (s t : List ℕ) (id : Part) (n : ℕ) → shown (s ++ t) id ≡ shown s id → (x : DataRead) → read_data s n ≡ x → is_out (after_data s id x) ≡ false
     → after_data (s ++ t) id (read_data (s ++ t) n) ≡ after_data s id x

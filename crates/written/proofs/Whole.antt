@@ -1,5 +1,6 @@
 -- A record that is read without a remark and without spare payload: its bytes are the written form of its meaning, and the writer
 -- doesn't refuse it. Assumes nothing.
+use Rattle.std.specs.Prelude.{Option, Some, None}
 use Prim.Native.Nat.{ℕ, ◌+◌, ◌-◌, ◌≤◌}
 use mathlib.Core.Path.{◌≡◌, refl, sym, ◌∙◌, ap}
 use mathlib.Core.Bool.{true}
@@ -26,8 +27,6 @@ use Rattle.fields.proofs.AllTaken.{fields_taken}
 use Rattle.kinds.specs.Kinds.{read_kind}
 use Rattle.extensions.specs.Extensions.{Payload, shaped, all_data, payload_at, find}
 use Rattle.extensions.specs.declared.Extension.{Extension}
-use Rattle.extensions.specs.declared.Found.{Found}
-use Rattle.extensions.specs.declared.Found.TheVariants.{Known, Unknown}
 use Rattle.item.specs.Records.{
   Content,
   content,
@@ -88,7 +87,7 @@ module _ (v : Version) (ex : has_ex v ≡ true) (s : List ℕ) (b : Bytes s) (at
       ∙ sym (ex_split id load rest)
       ∙ ap (λ l. ex_bytes id load ++ l) (sym f.after))
 
-  module _ (e : Extension) (known : find id ≡ Known e) where
+  module _ (e : Extension) (known : find id ≡ Some e) where
     named_same : (l : Payload) → payload_at e ≡ l → (vs : List (Value Part)) → parts_inside s vs ≡ true
         → payload_writable l (map (mean s) vs) ≡ true → payload_bytes l (map (mean s) vs) ≡ load → Same v s (content (Named e) vs) (end_at at id load)
     unfolding write_content content_writable
@@ -134,7 +133,7 @@ module _ (v : Version) (ex : has_ex v ≡ true) (s : List ℕ) (b : Bytes s) (at
     payload_same (shaped fs) q c next g r = fields_by fs q (read_fields fs (take (end_at at id load) s) (load_at at id load)) refl c next g r
     payload_same all_data q c next g r = same_got (Same v s) g (whole_same q)
 
-  other_same : find id ≡ Unknown → Same v s (content Other (bytes (id_part at id) ∷ bytes (load_part at id load) ∷ [])) (end_at at id load)
+  other_same : find id ≡ None → Same v s (content Other (bytes (id_part at id) ∷ bytes (load_part at id load) ∷ [])) (end_at at id load)
   unfolding write_content content_writable
   other_same n =
       let i : inside s (id_part at id) ≡ true = le-leb (at + length id) (length s) (omega (arith, f.within)) in
@@ -146,11 +145,11 @@ module _ (v : Version) (ex : has_ex v ≡ true) (s : List ℕ) (b : Bytes s) (at
         same = rw (f.id_shown, f.load_shown) ex_same;
       }
 
-  found_same : (x : Found) → find id ≡ x → (c : Content Part) (next : ℕ)
+  found_same : (x : Option Extension) → find id ≡ x → (c : Content Part) (next : ℕ)
       → of_found s (id_part at id) (load_part at id load) x (end_at at id load) ≡ got c next
       → found_remarks s (load_part at id load) x (end_at at id load) ≡ 0 → Same v s c next
-  found_same (Known e) q c next g r = payload_same e q (payload_at e) refl c next g r
-  found_same Unknown q c next g r = same_got (Same v s) g (other_same q)
+  found_same (Some e) q c next g r = payload_same e q (payload_at e) refl c next g r
+  found_same None q c next g r = same_got (Same v s) g (other_same q)
 
 -- an extension that was read without a remark on its length
 record Framed (s : List ℕ) (at : ℕ) : Type 0 where

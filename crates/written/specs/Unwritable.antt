@@ -1,8 +1,8 @@
 -- The records that have no written form and are refused 11: those for which one of eight tests holds. docs/FORMAT.md, "The writer".
-use Rattle.std.specs.Prelude.{ℕ, ◌≡◌, Bool, false, not, ◌&&◌, ◌||◌, List, [], ◌∷◌, map, leb, eqb}
+use Rattle.std.specs.Prelude.{ℕ, ◌≡◌, Bool, false, not, ◌&&◌, ◌||◌, List, [], ◌∷◌, map, leb, eqb, Result}
 use Rattle.std.specs.Int.Signed.{non_neg}
+use Rattle.refusal.specs.declared.Refusal.{Refusal}
 use Rattle.varint.specs.Written.{written_if, wrote_said, writing}
-use Rattle.varint.specs.declared.Wrote.{Wrote}
 use Rattle.packer.specs.Texts.{no_zero, is_data}
 use Rattle.fields.specs.Fields.{Field, int, dt, mask, str, uuid, blob, args, Value, on_num, on_bytes, on_strings, mean}
 use Rattle.fields.specs.Writing.{all_hold, small_dt, parts_inside}
@@ -106,6 +106,6 @@ record_writable v s r =
 -- ---- the writer's call
 
 -- the answer w: the place past the record's bytes, 11 or 9; and the target ys after it
-pub record Writes (v : Version) (s : List ℕ) (r : Record) (xs : List ℕ) (at : ℕ) (w : Wrote) (ys : List ℕ) : Type 0 where
+pub record Writes (v : Version) (s : List ℕ) (r : Record) (xs : List ℕ) (at : ℕ) (w : Result ℕ Refusal) (ys : List ℕ) : Type 0 where
   pub answer : wrote_said w ≡ writing (record_writable v s r) xs at (record_bytes s r)
   pub target : ys ≡ written_if (record_writable v s r) xs at (record_bytes s r)

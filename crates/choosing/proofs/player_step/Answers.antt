@@ -3,13 +3,14 @@ use mathlib.Core.Path.{sym, ◌∙◌}
 use borrow.Author.Rules.{sfits_of}
 use borrow.Author.Tests.{eq-eqb, ne_eqb}
 use Rattle.state.proofs.Numbers.{back, element}
+use Rattle.choosing.proofs.Forms.{none_chosen}
 use Rattle.choosing.proofs.Places.{player_same, player_moves_law, player_leaves_law, player_comes_law, player_away, subtracted}
 use Rattle.choosing.proofs.player_step.Goals as goal
 
 pub returns-then-same_player : goal.returns-then-same_player
 returns-then-same_player c =
     let a = c.args in
-    player_same a.c a.p a.q _ (sym c.same_player.ensures ∙ c.if-same_player.true) c.none.ensures
+    player_same a.c a.p a.q _ (sym c.same_player.ensures ∙ c.if-same_player.true) none_chosen
 
 pub returns-then-q-eq1 : goal.returns-then-q-eq1
 returns-then-q-eq1 c =
@@ -53,4 +54,4 @@ returns c =
     player_away a.c a.p a.q _ (sym c.same_player.ensures ∙ c.if-same_player.false)
     (ne_eqb a.p.mark 1 c.if-p-eq1.false)
     (ne_eqb a.q.mark 1 c.if-q-eq1-2.false)
-    c.none-2.ensures
+    none_chosen

@@ -1,6 +1,7 @@
 -- `choosing::skip_to` meets its contract. Assumes nothing.
 use lib.Signed.{mag}
 use Rattle.state.proofs.Numbers.{back}
+use Rattle.choosing.proofs.Forms.{none_chosen}
 use Rattle.choosing.proofs.Places.{skip_before, skip_back, skip_on, Later, later}
 use Rattle.choosing.proofs.skip_to.Goals as goal
 use Rattle.choosing.proofs.skip_to.Goals.{After-plain}
@@ -8,13 +9,13 @@ use Rattle.choosing.proofs.skip_to.Goals.{After-plain}
 pub returns-then-t-lt0 : goal.returns-then-t-lt0
 returns-then-t-lt0 c =
     let st = c in
-    skip_before _ st.args.t st.args.u (rw (back st.args.t st.ranges.t) at c.if-t-lt0.true) c.none.ensures
+    skip_before _ st.args.t st.args.u (rw (back st.args.t st.ranges.t) at c.if-t-lt0.true) none_chosen
 
 pub returns-then-u-t : goal.returns-then-u-t
 returns-then-u-t c =
     let st = c in
     let e = rw (back st.args.u st.ranges.u, back st.args.t st.ranges.t) at c.if-u-t.true in
-    skip_back _ st.args.t st.args.u e c.none-then-u-t.ensures
+    skip_back _ st.args.t st.args.u e none_chosen
 
 rising : (c : After-plain) → Later c.args.t c.args.u
 rising c =

@@ -29,6 +29,6 @@ loop-count-preserved c =
     let a = t.args in
     let r = u.read-read in
     let m = far_more (version_if a.second) a.body.now l.reader l.at l.count l.invariant (omega (arith, t.loop-count-test.true)) _
-    (u.event_used.ensures ∙ used_is _ r.result r.ensures) r.result.reader c.in-Bytes.used c.in-Bytes.is r.ensures.left in
-    let e : c.past-at.result ≡ l.at + c.in-Bytes.used = omega (arith, c.past-at.ensures, m.within) in
+    (u.event_used.ensures ∙ used_is _ r.result r.ensures) r.result.reader c.in-Some.used c.in-Some.is r.ensures.left in
+    let e : c.past-at.result ≡ l.at + c.in-Some.used = omega (arith, c.past-at.ensures, m.within) in
     rw e m

@@ -33,7 +33,7 @@ loop-count-preserved c =
     let a = t.args in
     let m = memory l.marks l.xs l.ys l.held l.inputs l.input l.former in
     let g = far_more (version_if a.second) a.body.now (reader_of l.scalars m) l.at l.count l.invariant (omega (arith, t.loop-count-test.true)) _
-    (u.event_used.ensures ∙ used_is l.scalars m _ r.result _ r.ensures) _ c.in-Bytes.used c.in-Bytes.is
+    (u.event_used.ensures ∙ used_is l.scalars m _ r.result _ r.ensures) _ c.in-Some.used c.in-Some.is
     (left_is l.scalars m _ r.result _ r.ensures) in
-    let e : c.past-at.result ≡ l.at + c.in-Bytes.used = omega (arith, c.past-at.ensures, g.within) in
+    let e : c.past-at.result ≡ l.at + c.in-Some.used = omega (arith, c.past-at.ensures, g.within) in
     rw e g

@@ -1,7 +1,6 @@
 -- The places of a reel, and what is left after rows were stepped over.
-use Rattle.std.specs.Prelude.{ℕ, zero, suc, ◌-◌, Bool, true, cond, eqb}
+use Rattle.std.specs.Prelude.{ℕ, zero, suc, ◌-◌, Bool, true, cond, eqb, Option, ℤ}
 use Rattle.refusal.specs.declared.Refusal.TheVariants.{NotLast}
-use Rattle.back.specs.declared.BoardTick.{BoardTick}
 use Rattle.reel.specs.Reel.{place_before, counts_of, reel_of}
 use Rattle.reel.specs.declared.Counts.{Counts}
 use Rattle.rewinding.specs.Walk.{Walked}
@@ -19,7 +18,7 @@ places_before zero p = p
 places_before (suc n) p = places_before n (place_before p)
 
 -- what is left after k rows were stepped over: whether the next fitted, the board's tick, and the place before which the others stand
-abbrev pub lent_of : Bool → BoardTick → ℕ → ℕ → Counts → Progress → LentGo
+abbrev pub lent_of : Bool → Option ℤ → ℕ → ℕ → Counts → Progress → LentGo
 lent_of fits t p k counts w =
     let left = counts_of p (counts.count - k) in
     let newer = w.newer - k in

@@ -1,4 +1,5 @@
 -- `ids::find_id` meets its contract. The loop's invariant: what is found among those left is the answer. Assumes nothing.
+use Rattle.std.specs.Prelude.{Some}
 use Prim.Native.Nat.{◌+◌, ◌-◌, ◌≤◌}
 use mathlib.Core.Path.{◌≡◌, sym, ◌∙◌, ap}
 use mathlib.Core.Bool.{Bool, true, false, cond}
@@ -9,7 +10,6 @@ use Rattle.packer.specs.Parts.{shown}
 use Rattle.packer.proofs.Reading.{shown_in, shown_out}
 use Rattle.shapes.specs.steps.Shapes.{id_part}
 use Rattle.extensions.specs.Extensions.{id_at, all, find_in, find}
-use Rattle.extensions.specs.declared.Found.TheVariants.{Known}
 use Rattle.ids.proofs.Find.{find_step}
 use Rattle.ids.proofs.Table.{none_found, id_sixteen}
 use Rattle.ids.proofs.find_id.Goals as goal
@@ -28,7 +28,7 @@ loop-k-init c = let a = c.args in (omega arith, rw (shown_in a.s.now a.at 16 (om
 -- one step of the loop, by what the comparison answers
 step : (c : Then-same_bytes) (b : Bool) → c.same_bytes.result ≡ b
     → find (shown c.args.s.now (id_part c.args.at))
-    ≡ cond b (Known c.extension_at-which.result)
+    ≡ cond b (Some c.extension_at-which.result)
     (find_in (drop (c.loop-k.k + 1) all)
     (take 16
     (drop c.args.at c.args.s.now)))
@@ -46,7 +46,7 @@ returns-then-same_bytes c = sym (step c true c.if-same_bytes.true)
 -- one step of the loop, by what the comparison answers
 step_2 : (c : Else-same_bytes) (b : Bool) → c.same_bytes.result ≡ b
     → find (shown c.args.s.now (id_part c.args.at))
-    ≡ cond b (Known c.extension_at-which.result)
+    ≡ cond b (Some c.extension_at-which.result)
     (find_in (drop (c.loop-k.k + 1) all)
     (take 16
     (drop c.args.at c.args.s.now)))

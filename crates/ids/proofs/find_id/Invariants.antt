@@ -9,7 +9,6 @@ use Rattle.packer.specs.Parts.{shown}
 use Rattle.packer.proofs.Reading.{shown_in, shown_out}
 use Rattle.shapes.specs.steps.Shapes.{id_part}
 use Rattle.extensions.specs.Extensions.{id_at, all, find_in, find}
-use Rattle.extensions.specs.declared.Found.TheVariants.{Known}
 use Rattle.ids.proofs.Find.{find_step}
 use Rattle.ids.proofs.Table.{none_found, id_sixteen}
 use Rattle.ids.proofs.find_id.Given as goal

@@ -1,5 +1,6 @@
 -- `int_writer::write_int` meets its contract. The loop's invariant: the bytes still to come, stored from `i` on, make of the target what
 -- the whole number's bytes make of it. Assumes nothing.
+use Rattle.std.specs.Prelude.{Ok}
 use Prim.Native.Nat.{◌+◌, ◌-◌, ◌/◌, ◌^◌, ◌≤◌, ◌<◌}
 use mathlib.Core.Path.{◌≡◌, refl, sym, ◌∙◌, ap}
 use native.Mathlib.Omega.{arith}
@@ -10,7 +11,6 @@ use lib.Seq.{sets}
 use lib.Signed.{mag}
 use mir.Syntax.{w32}
 use mir.Facts.{to_z-of_z}
-use Rattle.varint.specs.declared.Wrote.TheVariants.{Past}
 use Rattle.varint.specs.Written.{first_byte, later_byte, later_bytes, canonical}
 use Rattle.varint.proofs.Writing.{left, later_one, later_none, put_one, fits_written, fits_answer, short}
 use Rattle.int_writer.proofs.write_int.Goals as goal
@@ -126,7 +126,7 @@ returns c =
     rw (c.loop-rest-test.false, later_none) at l.invariant.1.1.1.0 in
     let i : l.i ≡ a.at + length (canonical a.value) = omega arith in
     record {
-      answer = ap Past i ∙ fits_answer a.out.now a.at (canonical a.value) h;
+      answer = ap Ok i ∙ fits_answer a.out.now a.at (canonical a.value) h;
       target = (rw (c.loop-rest-test.false, later_none) at l.invariant.1.1.1.1.1)
           ∙ rw (first_is c, magnitude_is_2 c, add-one)
           (fits_written a.out.now a.at (canonical a.value) h);

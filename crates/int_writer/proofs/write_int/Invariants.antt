@@ -10,7 +10,6 @@ use lib.Seq.{sets}
 use lib.Signed.{mag}
 use mir.Syntax.{w32}
 use mir.Facts.{to_z-of_z}
-use Rattle.varint.specs.declared.Wrote.TheVariants.{Past}
 use Rattle.varint.specs.Written.{first_byte, later_byte, later_bytes, canonical}
 use Rattle.varint.proofs.Writing.{left, later_one, later_none, put_one, fits_written, fits_answer, short}
 use Rattle.int_writer.proofs.write_int.Given as goal

@@ -1,4 +1,5 @@
 -- `keeping::keep_lent` meets its contract. Assumes nothing.
+use Rattle.std.specs.Prelude.{Option}
 use borrow.Author.Tests.{ltb-true}
 use Prim.Native.Nat.{◌<◌}
 use mathlib.Core.Path.{◌≡◌, refl, sym, ◌∙◌}
@@ -8,7 +9,6 @@ use lib.IntN.{ℤ}
 use Rattle.refusal.specs.declared.Refusal.TheVariants.{BadState}
 use Rattle.state.specs.Reading.{Event}
 use Rattle.state.proofs.Numbers.{picks_first, picks_second}
-use Rattle.teams.specs.declared.Team.{Team}
 use Rattle.back.specs.Undo.{undo_of}
 use Rattle.reel.specs.Reel.{reel_of, good_counts, one_more, keep_row, keeping}
 use Rattle.reel.specs.declared.Counts.{Counts}
@@ -28,7 +28,7 @@ module _ (k : Counts) (g : Bool) (q : g ≡ good_counts k) where
   room : g ≡ true → k.next < 512
   room n = ltb-true k.next 512 (first _ _ (good n))
 
-  module _ (rows inputs formers : List ℤ) (e : Event) (ten former : List ℤ) (team : Team) where
+  module _ (rows inputs formers : List ℤ) (e : Event) (ten former : List ℤ) (team : Option ℤ) where
     refused : g ≡ false
         → kept_is (record { answer = Refused BadState; counts = k }) rows inputs formers ≡ keeping (reel_of k rows inputs formers) e ten former team
     unfolding keeping

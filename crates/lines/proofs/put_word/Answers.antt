@@ -1,16 +1,16 @@
 -- `lines::put_word` meets its contract. Assumes nothing.
+use Rattle.std.specs.Prelude.{Ok}
 use Prim.Native.Nat.{ℕ, ◌+◌}
 use mathlib.Core.Path.{◌≡◌, sym, ◌∙◌}
 use native.Mathlib.Omega.{arith}
 use lib.ListN.{length}
-use Rattle.varint.specs.declared.Wrote.TheVariants.{Past}
 use Rattle.varint.proofs.Writing.{fits_answer}
 use Rattle.lines.proofs.put_word.Goals as goal
-use Rattle.lines.proofs.put_word.Goals.{In-Past, In_default}
+use Rattle.lines.proofs.put_word.Goals.{In-Ok, In_default}
 
 -- the word fits, so it is written
 answer : (c : In_default)
-    → let a = c.args in Past (a.at + length a.word.now) ≡ c.write_raw.result
+    → let a = c.args in Ok (a.at + length a.word.now) ≡ c.write_raw.result
 answer c =
     let s = c in
     fits_answer s.args.out.now s.args.at s.args.word.now s.requires ∙ sym c.write_raw.ensures.answer
@@ -22,8 +22,8 @@ returns-in_default c =
     absurd (omega arith)
 
 -- the word fits, so it is written
-answer_2 : (c : In-Past)
-    → let a = c.args in Past (a.at + length a.word.now) ≡ c.write_raw.result
+answer_2 : (c : In-Ok)
+    → let a = c.args in Ok (a.at + length a.word.now) ≡ c.write_raw.result
 answer_2 c =
     let s = c in
     fits_answer s.args.out.now s.args.at s.args.word.now s.requires ∙ sym c.write_raw.ensures.answer

@@ -1,4 +1,5 @@
 -- `packer::read_data` meets its contract. Assumes nothing.
+use Rattle.std.specs.Prelude.{Option}
 use Prim.Native.Nat.{ℕ}
 use mathlib.Core.Path.{◌≡◌, sym, ◌∙◌, ap}
 use mathlib.Core.Bool.{false}
@@ -32,7 +33,7 @@ returns-then-value-lt0 c =
     ∙ ap (data_after s) (sym c.in-Got.is ∙ c.read_int.ensures)
 
 -- so many bytes behind a length that isn't negative
-data_raw : (s : List ℕ) (at m : ℕ) (z : ℤ) (remark : Remark) → SFits w32 z → lt_z (to_z w32 (of_z w32 z)) (pos 0) ≡ false
+data_raw : (s : List ℕ) (at m : ℕ) (z : ℤ) (remark : Option Remark) → SFits w32 z → lt_z (to_z w32 (of_z w32 z)) (pos 0) ≡ false
     → ints.Got z m remark ≡ read_int s at → (x : PartRead) → x ≡ read_raw (nat_abs (to_z w32 (of_z w32 z))) s m → as_data x ≡ read_data s at
 unfolding read_data
 data_raw s at m z remark h left i x e =

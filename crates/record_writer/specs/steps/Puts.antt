@@ -1,13 +1,12 @@
 -- Bytes put into a target that has room for them.
-use Rattle.std.specs.Prelude.{ℕ, ◌+◌, ◌≤◌, ◌≡◌, Bool, true, List, length}
+use Rattle.std.specs.Prelude.{ℕ, ◌+◌, ◌≤◌, ◌≡◌, Bool, true, List, length, Result, Ok, Err}
+use Rattle.refusal.specs.declared.Refusal.{Refusal}
 use Rattle.varint.specs.Written.{written}
-use Rattle.varint.specs.declared.Wrote.{Wrote}
-use Rattle.varint.specs.declared.Wrote.TheVariants.{Past, Refused}
 
 -- the place past what was written; another where it was refused
-abbrev pub past_of : Wrote → ℕ → ℕ
-past_of (Past next) other = next
-past_of (Refused r) other = other
+abbrev pub past_of : Result ℕ Refusal → ℕ → ℕ
+past_of (Ok next) other = next
+past_of (Err r) other = other
 
 abbrev pub HasRoom : List ℕ → ℕ → List ℕ → Type 0
 HasRoom xs at bs = at + length bs ≤ length xs

@@ -1,22 +1,21 @@
 -- The finish that the code tells of, and a finish of a client that is listed.
-use Rattle.std.specs.Prelude.{ℕ, ◌≡◌, List, [], ◌∷◌, ℤ, pos}
+use Rattle.std.specs.Prelude.{ℕ, ◌≡◌, List, [], ◌∷◌, ℤ, pos, Option, Some, None}
 use Rattle.packer.specs.declared.Part.{Part}
 use Rattle.item.specs.Records.{Content}
 use Rattle.state.specs.Reading.{Event}
 use Rattle.results.specs.Results.{Finish, finish, finish_in, finish_of, results_with, keep_at}
-use Rattle.results.specs.declared.FinishOf.{FinishOf}
-use Rattle.results.specs.declared.FinishOf.TheVariants as finishes
+use Rattle.results.specs.declared.PlayerFinish.{PlayerFinish}
 
 -- in tick k
-abbrev pub finish_is : ℤ → FinishOf → List Finish
-finish_is k (finishes.Finish c t) = finish c t k ∷ []
-finish_is k finishes.NoFinish = []
+abbrev pub finish_is : ℤ → Option PlayerFinish → List Finish
+finish_is k (Some f) = finish f.cid f.time k ∷ []
+finish_is k None = []
 
 -- whatever tick is open
-abbrev pub FinishInRecord : Content Part → FinishOf → Type 0
+abbrev pub FinishInRecord : Content Part → Option PlayerFinish → Type 0
 FinishInRecord r f = (k : ℤ) → finish_is k f ≡ finish_in k r
 
-abbrev pub FinishOfEvent : Event → FinishOf → Type 0
+abbrev pub FinishOfEvent : Event → Option PlayerFinish → Type 0
 FinishOfEvent e f = (k : ℤ) → finish_is k f ≡ finish_of k e
 
 -- whatever the count is

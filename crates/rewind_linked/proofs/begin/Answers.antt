@@ -14,22 +14,22 @@ sought : (c : After-team_board_of) (inputs formers : List ℤ)
     → let a = c.args in sought_in a.reader (reel_of a.counts a.rows.now inputs formers) a.tick ≡ c.seek.result
 sought c inputs formers = let t : Same c.args.tick = search rules in sym (rw t at (c.seek.ensures inputs formers))
 
-pub returns-in-Newer : goal.returns-in-Newer
-returns-in-Newer c =
+pub returns-in-Ok : goal.returns-in-Ok
+returns-in-Ok c =
     let k = c in
     let a = k.args in
     λ inputs formers.
-    found a.reader (reel_of a.counts a.rows.now inputs formers) a.tick _ (sought k inputs formers ∙ c.in-Newer.is) _
+    found a.reader (reel_of a.counts a.rows.now inputs formers) a.tick _ (sought k inputs formers ∙ c.in-Ok.is) _
     c.team_board_of.ensures
 
 sought_2 : (c : After-refuse_start) (inputs formers : List ℤ)
     → let a = c.args in sought_in a.reader (reel_of a.counts a.rows.now inputs formers) a.tick ≡ c.seek.result
 sought_2 c inputs formers = let t : Same c.args.tick = search rules in sym (rw t at (c.seek.ensures inputs formers))
 
-pub returns-in-Refused : goal.returns-in-Refused
-returns-in-Refused c =
+pub returns-in-Err : goal.returns-in-Err
+returns-in-Err c =
     let k = c in
     let a = k.args in
     λ inputs formers.
     rw c.refuse_start.ensures
-    (not_found a.reader (reel_of a.counts a.rows.now inputs formers) a.tick _ (sought_2 k inputs formers ∙ c.in-Refused.is))
+    (not_found a.reader (reel_of a.counts a.rows.now inputs formers) a.tick _ (sought_2 k inputs formers ∙ c.in-Err.is))

@@ -12,19 +12,19 @@ over_newest-requires c =
     let a = c.args in
     let t : Same a.tick = search rules in
     let l = reel_of a.counts a.rows.now a.inputs.now a.formers.now in
-    let e = sym (rw t at (c.seek.ensures a.inputs.now a.formers.now)) ∙ c.in-Newer.is in
+    let e = sym (rw t at (c.seek.ensures a.inputs.now a.formers.now)) ∙ c.in-Ok.is in
     (good_room a.reader l (sought_newer a.reader l a.tick _ e).0).0
 
-pub returns-in-Newer : goal.returns-in-Newer
-returns-in-Newer c =
+pub returns-in-Ok : goal.returns-in-Ok
+returns-in-Ok c =
     let a = c.args in
     let t : Same a.tick = search rules in
-    let e = sym (rw t at (c.seek.ensures a.inputs.now a.formers.now)) ∙ c.in-Newer.is in
+    let e = sym (rw t at (c.seek.ensures a.inputs.now a.formers.now)) ∙ c.in-Ok.is in
     rw (c.over_newest.ensures, c.team_board_of.ensures) (ap rewound_of (found a.reader (reel_of a.counts a.rows.now a.inputs.now a.formers.now) a.tick _ e))
 
-pub returns-in-Refused : goal.returns-in-Refused
-returns-in-Refused c =
+pub returns-in-Err : goal.returns-in-Err
+returns-in-Err c =
     let a = c.args in
     let t : Same a.tick = search rules in
-    let e = sym (rw t at (c.seek.ensures a.inputs.now a.formers.now)) ∙ c.in-Refused.is in
+    let e = sym (rw t at (c.seek.ensures a.inputs.now a.formers.now)) ∙ c.in-Err.is in
     c.refuse.ensures ∙ ap rewound_of (not_found a.reader (reel_of a.counts a.rows.now a.inputs.now a.formers.now) a.tick _ e)

@@ -33,8 +33,8 @@ find_start-requires c =
     c.good_counts.ensures c.both-3.ensures in
     in_room a.reader (reel_of a.counts a.rows.now [] []) a.tick _ flag c.if-not-both.false
 
-pub returns-in-Newer : goal.returns-in-Newer
-returns-in-Newer c =
+pub returns-in-Some : goal.returns-in-Some
+returns-in-Some c =
     let a = c.args in
     let t : Same a.tick = search rules in
     let flag =
@@ -43,10 +43,10 @@ returns-in-Newer c =
     λ inputs formers.
     searched a.reader (reel_of a.counts a.rows.now inputs formers) a.tick _ flag c.if-not-both.false _
     c.closed_by_refusal.ensures c.if-closed_by_refusal.false (newer _)
-    (rw (c.in-Newer.is, t) at (c.find_start.ensures inputs formers))
+    (rw (c.in-Some.is, t) at (c.find_start.ensures inputs formers))
 
-pub returns-in-Gone : goal.returns-in-Gone
-returns-in-Gone c =
+pub returns-in-None : goal.returns-in-None
+returns-in-None c =
     let a = c.args in
     let t : Same a.tick = search rules in
     let flag =
@@ -55,4 +55,4 @@ returns-in-Gone c =
     λ inputs formers.
     searched a.reader (reel_of a.counts a.rows.now inputs formers) a.tick _ flag c.if-not-both.false _
     c.closed_by_refusal.ensures c.if-closed_by_refusal.false gone
-    (rw (c.in-Gone.is, t) at (c.find_start.ensures inputs formers))
+    (rw (c.in-None.is, t) at (c.find_start.ensures inputs formers))

@@ -1,8 +1,7 @@
 -- What the search of a reel answers.
+use Rattle.std.specs.Prelude.{Option, Some, None, ℕ}
 use Rattle.rewinding.specs.Rewinding.{Newer, newer, gone}
-use Rattle.rewinding.specs.declared.Found.{Found}
-use Rattle.rewinding.specs.declared.Found.TheVariants as founds
 
-abbrev pub found_is : Found → Newer
-found_is (founds.Newer n) = newer n
-found_is founds.Gone = gone
+abbrev pub found_is : Option ℕ → Newer
+found_is (Some n) = newer n
+found_is None = gone

@@ -1,9 +1,6 @@
 -- Lines from rows of numbers.
-use Rattle.std.specs.Prelude.{ℕ, ◌+◌, ◌*◌, ◌≤◌, ◌≡◌, cond, List, ◌∷◌, length, take, drop, get_or, ℤ, pos}
-use Rattle.varint.specs.declared.Wrote.{Wrote}
-use Rattle.varint.specs.declared.Wrote.TheVariants.{Past, Refused}
-use Rattle.kinds.specs.declared.Cid.{Cid}
-use Rattle.kinds.specs.declared.Cid.TheVariants.{Of, NoCid}
+use Rattle.std.specs.Prelude.{ℕ, ◌+◌, ◌*◌, ◌≤◌, ◌≡◌, cond, List, ◌∷◌, length, take, drop, get_or, ℤ, pos, Option, Some, None, Result, Ok, Err}
+use Rattle.refusal.specs.declared.Refusal.{Refusal}
 use Rattle.state.specs.State.{same_int}
 use Rattle.team_calls.specs.Lists.{TeamSeen}
 use Rattle.rows.specs.steps.Stores.{InRow, AllInRows}
@@ -12,9 +9,9 @@ use Rattle.lines.specs.Lines.{plain_line, plain_most, record_line, line_of, long
 use Rattle.row_lines.specs.Text.{text_of, events_in}
 
 -- the place past what was written, else the place itself
-abbrev pub past_or : Wrote → ℕ → ℕ
-past_or (Past next) at = next
-past_or (Refused r) at = at
+abbrev pub past_or : Result ℕ Refusal → ℕ → ℕ
+past_or (Ok next) at = next
+past_or (Err r) at = at
 
 -- a text is written where there is room for so many bytes
 abbrev pub Tries : ℕ → List ℕ → ℕ → List ℕ → ℕ → List ℕ → Type 0
@@ -25,8 +22,8 @@ abbrev pub TriesPlain : List ℕ → List ℤ → List ℕ → ℕ → ℕ → L
 TriesPlain word ns xs at next ys = Tries (plain_most word ns) xs at (plain_line word ns) next ys
 
 -- the client of which two numbers tell
-abbrev pub cid_told : ℤ → ℤ → Cid
-cid_told has c = cond (same_int has (pos 1)) (Of c) NoCid
+abbrev pub cid_told : ℤ → ℤ → Option ℤ
+cid_told has c = cond (same_int has (pos 1)) (Some c) None
 
 -- a client's number in a row, and ten numbers
 abbrev pub client_and : List ℤ → ℕ → List ℤ → ℕ → List ℤ

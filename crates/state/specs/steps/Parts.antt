@@ -1,5 +1,5 @@
 -- Parts of the definitions under names of their own, as the code and the proofs take them.
-use Rattle.std.specs.Prelude.{ℕ, ◌+◌, ◌*◌, Bool, true, false, cond, ◌&&◌, List, get_or, ℤ}
+use Rattle.std.specs.Prelude.{ℕ, ◌+◌, ◌*◌, Bool, true, false, cond, ◌&&◌, List, get_or, ℤ, Option}
 use Rattle.refusal.specs.declared.Refusal.TheVariants.{TickOverflow}
 use Rattle.packer.specs.declared.Part.{Part}
 use Rattle.fields.specs.Fields.{Reading}
@@ -9,7 +9,6 @@ use Rattle.item.specs.Records.{Content}
 use Rattle.item.specs.Contents.{cid_of}
 use Rattle.kinds.specs.declared.Version.{Version}
 use Rattle.kinds.specs.declared.Kind.{Kind}
-use Rattle.kinds.specs.declared.Cid.{Cid}
 use Rattle.state.specs.Sorts.{sort_of}
 use Rattle.state.specs.State.{Memory, zero_in, good_entry, ten_zeros, good_sort}
 use Rattle.state.specs.Reading.{
@@ -29,10 +28,8 @@ use Rattle.state.specs.Reading.{
   if_read,
   with_rule,
 }
-use Rattle.state.specs.declared.Pending.{Pending}
 use Rattle.state.specs.declared.Entries.{Entries}
 use Rattle.state.specs.declared.Scalars.{Scalars}
-use Rattle.state.specs.declared.Next.{Next}
 use Rattle.state.specs.declared.Rule.{Rule}
 use Rattle.state.specs.declared.Rule.TheVariants.{Reads, Ends, Over}
 
@@ -52,16 +49,16 @@ good_kind v k = good_sort v (sort_of k)
 
 -- ---- ticks
 
-abbrev pub ticking : ℤ → Bool → Cid → Pending → Scalars → Scalars
+abbrev pub ticking : ℤ → Bool → Option ℤ → Option Kind → Scalars → Scalars
 ticking t i p k s = turned s t i p s.largest k s.standing
 
-abbrev pub skipped : Scalars → Memory → ℕ → Next → Step
+abbrev pub skipped : Scalars → Memory → ℕ → Option ℤ → Step
 skipped s m n x =
     let ends : ℤ → Step = λ t. step_of (gives (tick_end s.tick) n) (skipping t false s) m in
     let starts : ℤ → Step = λ t. step_of (gives (tick_start t) n) (skipping t true s) m in
     if_tick (λ t. cond s.inside (ends t) (starts t)) (refusal_step TickOverflow s m) x
 
-abbrev pub ends_at : Next → Rule
+abbrev pub ends_at : Option ℤ → Rule
 ends_at x = if_tick Ends Over x
 
 abbrev pub comes_again : ℤ → Bool → Rule

@@ -8,4 +8,4 @@ returns-in_default c = rw c.in_default.is c.read_kind.ensures
 
 pub returns : goal.returns
 unfolding next_kind
-returns c = rw c.in-Is.is
+returns c = rw c.in-Some.is

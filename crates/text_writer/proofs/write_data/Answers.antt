@@ -1,4 +1,5 @@
 -- `text_writer::write_data` meets its contract. Assumes nothing.
+use Rattle.std.specs.Prelude.{Ok}
 use Prim.Native.Nat.{ℕ, ◌+◌, ◌≤◌}
 use mathlib.Core.Path.{◌≡◌, refl, sym, ◌∙◌}
 use mathlib.Core.Bool.{true}
@@ -9,7 +10,6 @@ use lib.ListN.{length, length-append}
 use lib.IntN.{pos}
 use mir.Syntax.{w32}
 use mir.Facts.{to_z_pos}
-use Rattle.varint.specs.declared.Wrote.TheVariants.{Past}
 use Rattle.varint.proofs.Writing.{canonical_le, fits_answer, short}
 use Rattle.packer.specs.Texts.{is_data, data_bytes}
 use Rattle.packer.proofs.Joined.{Put, put_answer, first_fits, next_fits, two_puts}
@@ -59,7 +59,7 @@ whole_fits c =
     omega (arith, size_is_3 c, length-append (lead b) b)
 
 -- so the length is written
-length_answer : (c : In_default) → let a = c.args in Past (a.at + length (lead a.b.now)) ≡ c.write_int.result
+length_answer : (c : In_default) → let a = c.args in Ok (a.at + length (lead a.b.now)) ≡ c.write_int.result
 length_answer c =
     let a = c.args in
     let b = a.b.now in
@@ -82,14 +82,14 @@ whole_fits_2 c =
     omega (arith, size_is_4 c, length-append (lead b) b)
 
 -- so the length is written
-length_answer_2 : (c : After-put-arg-1) → let a = c.args in Past (a.at + length (lead a.b.now)) ≡ c.write_int.result
+length_answer_2 : (c : After-put-arg-1) → let a = c.args in Ok (a.at + length (lead a.b.now)) ≡ c.write_int.result
 length_answer_2 c =
     let a = c.args in
     let b = a.b.now in
     fits_answer a.out.now a.at (lead b) (first_fits a.out.now a.at (lead b) b (whole_fits_2 c))
     ∙ sym (rw (to_z_pos w32 {n = length b} (omega arith)) at c.write_int.ensures.answer)
 
-length_put : (c : After-put-arg-1) → let w = c in let a = w.args in Put a.out.now a.at (lead a.b.now) c.in-Past.next w.write_int.new.out
+length_put : (c : After-put-arg-1) → let w = c in let a = w.args in Put a.out.now a.at (lead a.b.now) c.in-Ok.next w.write_int.new.out
 length_put c =
     let w = c in
     let q = length_answer_2 w in
@@ -115,14 +115,14 @@ whole_fits_3 c =
     omega (arith, size_is_5 c, length-append (lead b) b)
 
 -- so the length is written
-length_answer_3 : (c : After-slice_known-3-1) → let a = c.args in Past (a.at + length (lead a.b.now)) ≡ c.write_int.result
+length_answer_3 : (c : After-slice_known-3-1) → let a = c.args in Ok (a.at + length (lead a.b.now)) ≡ c.write_int.result
 length_answer_3 c =
     let a = c.args in
     let b = a.b.now in
     fits_answer a.out.now a.at (lead b) (first_fits a.out.now a.at (lead b) b (whole_fits_3 c))
     ∙ sym (rw (to_z_pos w32 {n = length b} (omega arith)) at c.write_int.ensures.answer)
 
-length_put_2 : (c : After-slice_known-3-1) → let w = c in let a = w.args in Put a.out.now a.at (lead a.b.now) c.in-Past.next w.write_int.new.out
+length_put_2 : (c : After-slice_known-3-1) → let w = c in let a = w.args in Put a.out.now a.at (lead a.b.now) c.in-Ok.next w.write_int.new.out
 length_put_2 c =
     let w = c in
     let q = length_answer_3 w in
