@@ -53,12 +53,10 @@ fn same_marks(a: &[u8; 128], b: &[u8; 128]) -> bool
     ensures { result ≡ every 128 (same_mark a.now b.now) }
 {
     let mut all = true;
-    let mut i: usize = 0;
-    while i < 128 {
+    for i in 0..128 {
         let x = a[i];
         let y = b[i];
         all = good::both(same_mark(x, y), all);
-        i += 1;
     }
     all
 }
@@ -69,12 +67,10 @@ fn same_numbers<'a>(a: &'a [i32], b: &'a [i32], n: usize) -> bool
     ensures { result ≡ every n (same_number a.now b.now) }
 {
     let mut all = true;
-    let mut i: usize = 0;
-    while i < n {
+    for i in 0..n {
         let x = a[i];
         let y = b[i];
         all = good::both(same_number(x, y), all);
-        i += 1;
     }
     all
 }
@@ -109,19 +105,13 @@ pub fn same_entries(a: Entries, b: Entries) -> bool
 fn same_flag(a: bool, b: bool) -> bool
     ensures { result ≡ same_flag a b }
 {
-    if a {
-        return b;
-    }
-    !b
+    a == b
 }
 
 fn is_second(version: Version) -> bool
     ensures { result ≡ is_second version }
 {
-    match version {
-        Version::V1 => false,
-        Version::V2 => true,
-    }
+    matches!(version, Version::V2)
 }
 
 // 0 open, 1 finished, 2 refused.

@@ -29,7 +29,7 @@ use Rattle.records.specs.declared.RecordAnswer.TheVariants as rests
 use Rattle.records.specs.declared.RecordRead.{RecordRead}
 use Rattle.records.proofs.Beside.{own_record}
 use Rattle.state.specs.Sorts.{tag_sort}
-use Rattle.state.specs.State.{Memory}
+use Rattle.state.specs.declared.Memory.{Memory}
 use Rattle.state.specs.Reading.{Event, other, next_kind, open_call}
 use Rattle.state.specs.Slim.{said_is}
 use Rattle.state.specs.Slim.{slim_said}

@@ -25,51 +25,22 @@ pub fn no_args() -> Args
 fn is_record_event(event: Event) -> bool
     ensures { result ≡ record_event event }
 {
-    match event {
-        Event::TickStart(_) => false,
-        Event::TickEnd(_) => false,
-        Event::PlayerNew { cid: _, x: _, y: _ } => false,
-        Event::PlayerChange {
-            cid: _,
-            x: _,
-            y: _,
-            old_x: _,
-            old_y: _,
-        } => false,
-        Event::PlayerOld { cid: _, x: _, y: _ } => false,
-        Event::Input { cid: _, former: _ } => false,
-        Event::Record(_) => true,
-    }
+    matches!(event, Event::Record(_))
 }
 
 fn is_record(answer: Answer) -> bool
     ensures { result ≡ is_record answer }
 {
     match answer {
-        Answer::Event { event, used: _ } => is_record_event(event),
-        Answer::More => false,
-        Answer::Finish { used: _ } => false,
-        Answer::Refused(_) => false,
+        Answer::Event { event, .. } => is_record_event(event),
+        _ => false,
     }
 }
 
 fn is_command(kind: Kind) -> bool
     ensures { result ≡ is_command kind }
 {
-    match kind {
-        Kind::PlayerDiff(_) => false,
-        Kind::Finish => false,
-        Kind::TickSkip => false,
-        Kind::PlayerNew(_) => false,
-        Kind::PlayerOld(_) => false,
-        Kind::InputDiff => false,
-        Kind::InputNew => false,
-        Kind::Message => false,
-        Kind::Join => false,
-        Kind::Drop => false,
-        Kind::ConsoleCommand => true,
-        Kind::Ex => false,
-    }
+    matches!(kind, Kind::ConsoleCommand)
 }
 
 // The arguments that stand beside the record that a call gave; none beside anything but a command.

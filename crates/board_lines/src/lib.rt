@@ -60,11 +60,9 @@ fn put_players(
     ensures { (held : List ℕ) (inputs : List ℤ) → let e = entries_with marks.now xs.now ys.now held inputs in
         PutsText out.old at (lines_below 128 (present e) (player_line e)) result out.new }
 {
-    let mut c: usize = 0;
     let mut next = at;
-    while c < 128 {
+    for c in 0..128 {
         next = put_player(marks[c], c, xs[c], ys[c], out, next);
-        c += 1;
     }
     next
 }
@@ -87,11 +85,9 @@ fn put_inputs(held: &[u8; 128], inputs: &[i32; 1280], out: &mut [u8], at: usize)
     ensures { (marks : List ℕ) (xs ys : List ℤ) → let e = entries_with marks xs ys held.now inputs.now in
         PutsText out.old at (lines_below 128 (holds e) (input_line e)) result out.new }
 {
-    let mut c: usize = 0;
     let mut next = at;
-    while c < 128 {
+    for c in 0..128 {
         next = put_input(held[c], c, inputs, out, next);
-        c += 1;
     }
     next
 }
@@ -113,11 +109,9 @@ fn put_teams(teams: &[i32; 256], out: &mut [u8], at: usize) -> usize
     requires { at + 128 * 29 ≤ length out.old }
     ensures { PutsText out.old at (lines_below 128 (has_team teams.now) (team_line teams.now)) result out.new }
 {
-    let mut c: usize = 0;
     let mut next = at;
-    while c < 128 {
+    for c in 0..128 {
         next = put_team(c, teams, out, next);
-        c += 1;
     }
     next
 }
@@ -179,10 +173,7 @@ fn put_rewound(answer: RewindAnswer, board: TeamBoard, out: &mut [u8], at: usize
 fn has_longest(len: usize, at: usize) -> bool
     ensures { result ≡ leb (at + longest_board) len }
 {
-    if len < at {
-        return false;
-    }
-    27036 <= len - at
+    at <= len && 27036 <= len - at
 }
 
 // The text of a rewind's answer. Refused 9, with nothing changed, where the longest text wouldn't fit.

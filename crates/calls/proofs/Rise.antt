@@ -10,7 +10,8 @@ use lib.Dec.{ltb, eqb}
 use lib.IntN.{ℤ, pos, negsuc}
 use lib.Signed.{lt_z}
 use borrow.Author.Tests.{ltb-true, ltb-false, lt-ltb, le-ltb}
-use Rattle.state.specs.State.{Memory, holds}
+use Rattle.state.specs.State.{holds}
+use Rattle.state.specs.declared.Memory.{Memory}
 use Rattle.state.specs.Reading.{Step, is_closed, closing, raising, naming, starting, ending, skipping, next_tick, reader_after}
 use Rattle.state.specs.steps.Parts.{memory_of}
 use Rattle.state.specs.Acts.{Act, ReadAct}

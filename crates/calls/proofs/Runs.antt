@@ -10,7 +10,8 @@ use lib.Seq.{drop-drop}
 use borrow.Author.Tests.{leb-true, leb-false}
 use Rattle.num.proofs.Cases.{by_bool}
 use Rattle.item.specs.Said.{Said, gives, more, finish, refuses}
-use Rattle.state.specs.State.{Memory, ten_of}
+use Rattle.state.specs.State.{ten_of}
+use Rattle.state.specs.declared.Memory.{Memory}
 use Rattle.state.specs.Reading.{Event, Step, sums, reader_after}
 use Rattle.state.specs.Laws.{used_in}
 use Rattle.state.specs.Acts.{Act, ReadAct}

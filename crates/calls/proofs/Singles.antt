@@ -13,7 +13,7 @@ use Rattle.item.specs.Said.{Said, gives, more, finish, refuses}
 use Rattle.item.specs.Records.{Content, rest_of, read_rest}
 use Rattle.kinds.specs.declared.Version.{Version}
 use Rattle.kinds.specs.declared.Kind.{Kind}
-use Rattle.state.specs.State.{Memory}
+use Rattle.state.specs.declared.Memory.{Memory}
 use Rattle.state.specs.Reading.{Event, Step, next_kind, good_call, read_call, reader_after}
 use Rattle.state.specs.steps.Parts.{memory_of}
 use Rattle.state.specs.Laws.{SaidLeaves, used_in}

@@ -15,7 +15,8 @@ use Rattle.kinds.specs.declared.Kind.{Kind}
 use Rattle.kinds.specs.declared.Kind.TheVariants as kinds
 use Rattle.fields.specs.Fields.{got}
 use Rattle.refusal.specs.declared.Refusal.{Refusal}
-use Rattle.state.specs.State.{Memory, with_player, moved, ten_of, with_input}
+use Rattle.state.specs.State.{with_player, moved, ten_of, with_input}
+use Rattle.state.specs.declared.Memory.{Memory}
 use Rattle.state.specs.Reading.{Step, is_closed, closing, raising, naming, ending, skipping, sums, at_or_below, next_kind}
 use Rattle.state.specs.steps.Parts.{memory_of}
 use Rattle.state.specs.Acts.{HadKind, wants_tick, MayCome, WhyPlayer, Act}

@@ -12,29 +12,24 @@ use packer::{Part, PartRead};
 pub fn size(b: u8) -> usize
     ensures { (result ≡ b) × (result < 256) }
 {
-    b as usize
+    usize::from(b)
 }
 
 // Byte k of a number of so many bytes at a place; 0 if it has none.
+#[tactic(auto, unfolding(crate::specs::Cases::digit_at))]
 fn digit_at(s: &[u8], at: usize, width: usize, k: usize) -> usize
     requires { at + width ≤ length s.now }
     ensures { (result ≡ digit_at s.now at width k) × (result < 256) }
 {
-    if width <= k {
-        return 0;
-    }
-    let place = at + k;
-    size(s[place])
+    if k < width { size(s[at + k]) } else { 0 }
 }
 
 // The input whose length begins at a place: its part and the place of the next; RunsOut if no whole one is left.
+#[tactic(auto, unfolding(crate::specs::Cases::case_at))]
 pub fn case_at(s: &[u8], at: usize, width: usize) -> PartRead
     ensures { result ≡ case_at s.now at width }
 {
-    if s.len() < at {
-        return PartRead::RunsOut;
-    }
-    if s.len() - at < width {
+    if s.len() < at || s.len() - at < width {
         return PartRead::RunsOut;
     }
     let low = digit_at(s, at, width, 0);
@@ -82,10 +77,8 @@ fn place_of(s: &[u8], width: usize, k: usize) -> usize
     ensures { result ≡ place_of k s.now width }
 {
     let mut at: usize = 0;
-    let mut i: usize = 0;
-    while i < k {
+    for _ in 0..k {
         at = next_of(at, case_at(s, at, width));
-        i += 1;
     }
     at
 }
@@ -96,12 +89,10 @@ pub fn count(s: &[u8], width: usize) -> usize
 {
     let mut n: usize = 0;
     let mut at: usize = 0;
-    let mut i: usize = 0;
-    while i < s.len() {
+    for _ in s {
         let read = case_at(s, at, width);
         n += whole_of(read);
         at = next_of(at, read);
-        i += 1;
     }
     n
 }
@@ -113,36 +104,24 @@ pub fn nth(s: &[u8], width: usize, k: usize) -> &[u8]
     packer::show(s, part_of(case_at(s, place_of(s, width, k), width)))
 }
 
-fn word(b: u8) -> u32
-    ensures { result ≡ b }
-{
-    b as u32
-}
-
 // The byte at a place; 0 if there is none.
 pub fn byte(s: &[u8], i: usize) -> u8
     ensures { result ≡ get_or s.now i 0 }
 {
-    if s.len() <= i {
-        return 0;
-    }
-    s[i]
+    s.get(i).copied().unwrap_or(0)
 }
 
 // The first byte as a number; 0 if there is none.
 pub fn first(s: &[u8]) -> i32
     ensures { result ≡ to_z w32 (get_or s.now 0 0) }
 {
-    num::signed(word(byte(s, 0)))
+    num::signed(u32::from(byte(s, 0)))
 }
 
 pub fn difference(a: usize, b: usize) -> usize
     ensures { result ≡ a - b }
 {
-    if a < b {
-        return 0;
-    }
-    a - b
+    a.saturating_sub(b)
 }
 
 // The bytes from a place to an end; none where they reach outside.
@@ -191,7 +170,7 @@ fn small(b: u8) -> i32
     if b == 255 {
         return -2147483648;
     }
-    num::wrapping_add(num::signed(word(b)), -100)
+    num::wrapping_add(num::signed(u32::from(b)), -100)
 }
 
 // Room for many inputs in one run.
@@ -205,8 +184,5 @@ pub fn buffer() -> [u8; 1048576]
 pub fn past(at: usize, used: usize, end: usize) -> usize
     ensures { result ≡ min (at + used) end }
 {
-    if difference(end, at) <= used {
-        return end;
-    }
-    at + used
+    at.saturating_add(used).min(end)
 }

@@ -1,20 +1,22 @@
--- Ten numbers compared, one after the other. Assumes nothing.
-use Prim.Native.Nat.{ℕ, ◌+◌, ◌≤◌, ◌<◌}
-use mathlib.Core.Path.{◌≡◌}
-use mathlib.Core.Bool.{true, ◌&&◌}
-use mathlib.Core.List.{List}
-use native.Mathlib.Numerals.{add-one}
-use lib.ListN.{length, get_or, drop, drop_of_length-le}
-use lib.Seq.{drop-cons}
-use lib.IntN.{ℤ, pos}
+-- Numbers compared, one after the other. Assumes nothing.
+use mathlib.Core.Path.{◌≡◌, refl}
+use mathlib.Core.List.{List, [], ◌∷◌}
+use native.Mathlib.Omega.{arith}
+use lib.IntN.{ℤ, pos, negsuc}
+use Rattle.std.specs.Cmp.Lexicographic.{pointwise}
+use Rattle.std.specs.Ordering.{int_eq}
 use Rattle.state.specs.State.{same_int}
 use Rattle.compare.specs.Compare.{same_all}
 
-pub same_here : (a b : List ℤ) (k : ℕ) → k < length a → k < length b
-    → same_all (drop k a) (drop k b) ≡ (same_int (get_or a k (pos 0)) (get_or b k (pos 0)) && same_all (drop (k + 1) a) (drop (k + 1) b))
-unfolding same_all
-same_here a b k ha hb = rw (drop-cons a k (pos 0) ha, drop-cons b k (pos 0) hb, add-one k)
+same : (x y : ℤ) → int_eq x y ≡ same_int x y
+same (pos a) (pos b) = grind arith
+same (pos a) (negsuc b) = refl
+same (negsuc a) (pos b) = refl
+same (negsuc a) (negsuc b) = grind arith
 
-pub same_end : (a b : List ℤ) (k : ℕ) → length a ≤ k → length b ≤ k → same_all (drop k a) (drop k b) ≡ true
+pub all_same : (a b : List ℤ) → pointwise int_eq a b ≡ same_all a b
 unfolding same_all
-same_end a b k ha hb = rw (drop_of_length-le a {i = k} ha, drop_of_length-le b {i = k} hb)
+all_same [] [] = refl
+all_same [] (y ∷ ys) = refl
+all_same (x ∷ xs) [] = refl
+all_same (x ∷ xs) (y ∷ ys) = rw (same x y, all_same xs ys)

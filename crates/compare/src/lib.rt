@@ -15,16 +15,7 @@ pub fn same_number(a: i32, b: i32) -> bool
 pub fn same_ten(a: [i32; 10], b: [i32; 10]) -> bool
     ensures { result ≡ same_all a b }
 {
-    let mut k: usize = 0;
-    while k < 10 {
-        let x = a[k];
-        let y = b[k];
-        if !same_number(x, y) {
-            return false;
-        }
-        k += 1;
-    }
-    true
+    a == b
 }
 
 pub fn not_negative(x: i32) -> bool

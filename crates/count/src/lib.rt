@@ -19,22 +19,14 @@ pub fn version_if(second: bool) -> Version
 pub fn past(at: usize, used: usize, end: usize) -> usize
     ensures { result ≡ min (at + used) end }
 {
-    if end < at {
-        return end;
-    }
-    if end - at < used {
-        return end;
-    }
-    at + used
+    at.saturating_add(used).min(end)
 }
 
 pub fn event_used(answer: Answer) -> Option<usize>
     ensures { result ≡ used_by (said_is answer) }
 {
     match answer {
-        Answer::Event { event: _, used } => Some(used),
-        Answer::More => None,
-        Answer::Finish { used: _ } => None,
-        Answer::Refused(_) => None,
+        Answer::Event { used, .. } => Some(used),
+        Answer::More | Answer::Finish { .. } | Answer::Refused(_) => None,
     }
 }

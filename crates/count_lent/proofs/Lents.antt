@@ -4,7 +4,8 @@ use mathlib.Core.Path.{◌≡◌, refl, ap, ◌∙◌}
 use mathlib.Core.Bool.{true}
 use mathlib.Core.List.{List}
 use Rattle.item.specs.Said.{Said, gives, more, finish, refuses}
-use Rattle.state.specs.State.{Memory, reader_with}
+use Rattle.state.specs.State.{reader_with}
+use Rattle.state.specs.declared.Memory.{Memory}
 use Rattle.state.specs.Reading.{Event, Step, call_on, read_call, reader_after}
 use Rattle.state.specs.Slim.{said_is}
 use Rattle.state.specs.Slim.{slim_said, slim_step}

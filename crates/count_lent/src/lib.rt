@@ -4,7 +4,7 @@
 ghost use Rattle.std.specs.Prelude.{◌≡◌};
 ghost use Rattle.count.specs.Count.{version_if, event_count};
 
-use state::Reader;
+use state::{Memory, Reader};
 
 const MOST: u64 = 4611686018427387904;
 
@@ -13,30 +13,12 @@ pub fn jolzerv_count_lent(second: bool, body: &[u8]) -> u64
     ensures { result ≡ event_count (version_if second) body.now }
 {
     let reader = Reader::empty(count::version_if(second));
-    let entries = reader.entries;
-    let mut marks = entries.marks;
-    let mut xs = entries.xs;
-    let mut ys = entries.ys;
-    let mut held = entries.held;
-    let mut inputs = entries.inputs;
-    let mut input = [0i32; 10];
-    let mut former = [0i32; 10];
+    let mut m = Memory::of(reader.entries);
     let mut scalars = reader.scalars;
     let mut at: usize = 0;
     let mut count: u64 = 0;
     while count < MOST {
-        let o = lent::read_plain(
-            scalars,
-            &mut marks,
-            &mut xs,
-            &mut ys,
-            &mut held,
-            &mut inputs,
-            &mut input,
-            &mut former,
-            &body[at..],
-            true,
-        );
+        let o = lent::read_plain(scalars, &mut m, &body[at..], true);
         let answer = o.answer;
         let Some(used) = count::event_used(answer) else {
             return count;

@@ -16,12 +16,7 @@ const TURNS: u64 = 1125899906842624;
 fn ended(stop: Stop) -> bool
     ensures { result ≡ not_full (halt_of stop) }
 {
-    match stop {
-        Stop::Full => false,
-        Stop::More => true,
-        Stop::Finish => true,
-        Stop::Refused(_) => true,
-    }
+    !matches!(stop, Stop::Full)
 }
 
 // The number of events before finish or a refusal, read 4,096 events a call; second says that the version is 2.
@@ -33,8 +28,7 @@ pub fn jolzerv_count_many(second: bool, body: &[u8]) -> u64
     let mut reader = TeamReader::empty(count::version_if(second));
     let mut at: usize = 0;
     let mut count: u64 = 0;
-    let mut turns: u64 = TURNS;
-    while 0 < turns {
+    for _ in 0..TURNS {
         let many = many::read_many(reader, &body[at..], true, &mut rows, &mut tens);
         count += many.count as u64;
         let stop = many.stop;
@@ -44,7 +38,6 @@ pub fn jolzerv_count_many(second: bool, body: &[u8]) -> u64
         at = count::past(at, many.used, body.len());
         let next = many.reader;
         reader = next;
-        turns -= 1;
     }
     count
 }

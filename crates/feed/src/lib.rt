@@ -26,31 +26,13 @@ impl Hand {
     }
 }
 
-fn least(a: usize, b: usize) -> usize
-    ensures { result ≡ min a b }
-{
-    if a < b {
-        return a;
-    }
-    b
-}
-
-fn difference(a: usize, b: usize) -> usize
-    ensures { result ≡ a - b }
-{
-    if a < b {
-        return 0;
-    }
-    a - b
-}
-
 // The same bytes of a buffer of a length, with places inside it.
 fn clamp(hand: Hand, len: usize) -> Hand
     ensures { result ≡ clamped hand len }
 {
-    let end = least(hand.end, len);
+    let end = hand.end.min(len);
     Hand {
-        at: least(hand.at, end),
+        at: hand.at.min(end),
         end,
         ended: hand.ended,
     }
@@ -70,7 +52,7 @@ pub fn window(buf: &[u8], hand: Hand) -> &[u8]
 pub fn pass(hand: Hand, used: usize) -> Hand
     ensures { result ≡ passed hand used }
 {
-    let left = difference(difference(hand.end, hand.at), used);
+    let left = hand.end.saturating_sub(hand.at).saturating_sub(used);
     Hand {
         at: hand.end - left,
         end: hand.end,
@@ -83,13 +65,8 @@ fn shift(buf: &mut [u8], at: usize, end: usize) -> usize
     ensures value { result ≡ end - at }
     ensures buf_after { buf.new ≡ kept (slice at end buf.old) buf.old }
 {
-    let n = end - at;
-    let mut i = 0;
-    while i < n {
-        buf[i] = buf[at + i];
-        i += 1;
-    }
-    n
+    buf.copy_within(at..end, 0);
+    end - at
 }
 
 // Moves the bytes at hand to the front of the buffer: how many they are.
@@ -106,10 +83,10 @@ pub fn keep(buf: &mut [u8], hand: Hand) -> usize
 pub fn grow(len: usize, n: usize, got: usize) -> Hand
     ensures { result ≡ grown len n got }
 {
-    let free = difference(len, n);
+    let free = len.saturating_sub(n);
     Hand {
         at: 0,
-        end: least(n, len) + least(got, free),
+        end: n.min(len) + got.min(free),
         ended: got == 0,
     }
 }

@@ -1,9 +1,8 @@
 -- Fields that stand behind others are read from the place past those. Assumes nothing.
 use Prim.Native.Nat.{ℕ}
-use mathlib.Core.Path.{◌≡◌, refl, sym, ◌∙◌, ap}
+use mathlib.Core.Path.{◌≡◌, refl, ◌∙◌, ap}
 use mathlib.Core.List.{List, [], ◌∷◌, ◌++◌}
-use Rattle.packer.specs.declared.Part.{Part}
-use Rattle.fields.specs.Fields.{Field, Value, Reading, got, runs_out, refused, read_field, read_fields}
+use Rattle.fields.specs.Fields.{Field, Reading, got, runs_out, refused, read_field, read_fields}
 use Rattle.fields.specs.steps.Sorts.{push, and_then}
 
 -- values before those that are read after them

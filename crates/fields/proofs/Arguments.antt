@@ -67,14 +67,14 @@ module _ (n : ℕ) (s : List ℕ) (had : List Part) (at : ℕ) where
   unfolding args_from
   step = refl
 
-  step_out : read_string s at ≡ parts.RunsOut → args_from (suc n) s had at ≡ runs_out
+  pub step_out : read_string s at ≡ parts.RunsOut → args_from (suc n) s had at ≡ runs_out
   step_out e = step ∙ rw e
 
   module _ (p : Part) (next : ℕ) (e : read_string s at ≡ parts.Got p next) where
-    step_more : length had < 16 → args_from (suc n) s had at ≡ args_from n s (had ++ p ∷ []) next
+    pub step_more : length had < 16 → args_from (suc n) s had at ≡ args_from n s (had ++ p ∷ []) next
     step_more h = step ∙ rw (e, lt-ltb (length had) 16 h)
 
-    step_many : 16 ≤ length had → args_from (suc n) s had at ≡ refused NumArgsTooLarge
+    pub step_many : 16 ≤ length had → args_from (suc n) s had at ≡ refused NumArgsTooLarge
     step_many h = step ∙ rw (e, le-ltb (length had) 16 h)
 
 -- ---- so many of n strings were read

@@ -3,7 +3,7 @@ use Rattle.std.specs.Prelude.{ℕ, ◌<◌, ◌≡◌, Bool, true, false, ◌&&�
 use Rattle.std.specs.Int.{w32}
 use Rattle.std.proofs.Common.{SFits}
 use Rattle.packer.specs.Texts.{no_zero, is_data}
-use Rattle.fields.specs.Fields.{Field, int, dt, mask, str, uuid, blob, args, Value, bytes, on_num, on_bytes, on_strings}
+use Rattle.fields.specs.Fields.{Field, int, dt, mask, str, uuid, blob, args, Value, on_num, on_bytes, on_strings}
 use Rattle.fields.specs.Writing.{all_hold, small_dt}
 
 abbrev pub natural32 : ℤ → Type 0

@@ -53,8 +53,7 @@ fn read_strings(s: &[u8], at: usize, n: usize) -> ArgsRead
 {
     let mut parts = [NO_PART; 16];
     let mut next = at;
-    let mut count: usize = 0;
-    while count < n {
+    for count in 0..n {
         let PartRead::Got { part, next: past } = packer::read_string(s, next) else {
             return no_args(ArgsAnswer::RunsOut);
         };
@@ -62,12 +61,11 @@ fn read_strings(s: &[u8], at: usize, n: usize) -> ArgsRead
             return no_args(ArgsAnswer::Refused(Refusal::NumArgsTooLarge));
         }
         parts[count] = part;
-        count += 1;
         next = past;
     }
     ArgsRead {
         answer: ArgsAnswer::Got(next),
-        args: Args { count, parts },
+        args: Args { count: n, parts },
     }
 }
 
@@ -89,25 +87,25 @@ pub fn read_args(s: &[u8], at: usize) -> ArgsRead
     read_strings(s, next, value as usize)
 }
 
-// The place past n strings, byte by byte: the strings themselves are not kept.
+// The place past n strings: the strings themselves are not kept.
 fn skip_strings(s: &[u8], at: usize, n: usize) -> ArgsAnswer
     ensures { result ≡ (args_read (args_from n s.now [] at)).answer }
 {
-    let mut i = at;
-    let mut passed: usize = 0;
-    while passed < n {
-        if s.len() <= i {
+    let mut next = at;
+    for passed in 0..n {
+        let PartRead::Got {
+            part: _,
+            next: past,
+        } = packer::read_string(s, next)
+        else {
             return ArgsAnswer::RunsOut;
+        };
+        if passed == 16 {
+            return ArgsAnswer::Refused(Refusal::NumArgsTooLarge);
         }
-        if s[i] == 0 {
-            if passed == 16 {
-                return ArgsAnswer::Refused(Refusal::NumArgsTooLarge);
-            }
-            passed += 1;
-        }
-        i += 1;
+        next = past;
     }
-    ArgsAnswer::Got(i)
+    ArgsAnswer::Got(next)
 }
 
 // The arguments where only the place past them is wanted.
@@ -157,8 +155,7 @@ fn read_ten(s: &[u8], at: usize, cid: i32) -> InputRead
 {
     let mut input = [0i32; 10];
     let mut next = at;
-    let mut k: usize = 0;
-    while k < 10 {
+    for k in 0..10 {
         let IntRead::Got {
             value,
             next: past,
@@ -168,7 +165,6 @@ fn read_ten(s: &[u8], at: usize, cid: i32) -> InputRead
             return no_input();
         };
         input[k] = value;
-        k += 1;
         next = past;
     }
     InputRead {

@@ -155,10 +155,7 @@ fn has_start(counts: Counts, rows: &[i32; 5120], tick: i32, newer: usize) -> boo
     requires { (counts.next < 512) × (counts.count ≤ 512) }
     ensures { (inputs formers : List ℤ) → result ≡ start_behind tick newer (rows_of (reel_of counts rows.now inputs formers)) }
 {
-    if counts.count <= newer {
-        return false;
-    }
-    rewinding::start_at(rows, behind(counts.next, newer), tick)
+    newer < counts.count && rewinding::start_at(rows, behind(counts.next, newer), tick)
 }
 
 // Whether the copy and the own reel are not refused 17.
@@ -182,15 +179,6 @@ fn good_rewind<'a>(
         ),
         reel::good_counts(counts),
     )
-}
-
-fn least(a: usize, b: usize) -> usize
-    ensures { result ≡ min a b }
-{
-    if a < b {
-        return a;
-    }
-    b
 }
 
 fn refuse(why: Refusal, tick: Option<i32>, counts: Counts, progress: Progress) -> LentGo
@@ -282,7 +270,7 @@ pub fn go_lent(
     if progress.misfit {
         return refuse(Refusal::NotLast, tick, counts, progress);
     }
-    let n = least(events, progress.newer);
+    let n = events.min(progress.newer);
     let over = rewinding::step_over(
         tick,
         marks,

@@ -40,13 +40,11 @@ fn good_players(marks: &[u8; 128], xs: &[i32; 128], ys: &[i32; 128]) -> bool
     ensures { result ≡ good_players marks.now xs.now ys.now }
 {
     let mut good = true;
-    let mut i: usize = 0;
-    while i < 128 {
+    for i in 0..128 {
         let mark = marks[i];
         let x = xs[i];
         let y = ys[i];
         good = both(good_entry(mark, both(is_zero(x), is_zero(y))), good);
-        i += 1;
     }
     good
 }
@@ -57,11 +55,9 @@ fn zeros(inputs: &[i32; 1280], c: usize, n: usize) -> bool
     ensures { result ≡ every n (zero_at inputs.now c) }
 {
     let mut blank = true;
-    let mut k: usize = 0;
-    while k < n {
+    for k in 0..n {
         let x = inputs[10 * c + k];
         blank = both(is_zero(x), blank);
-        k += 1;
     }
     blank
 }
@@ -83,12 +79,10 @@ fn good_each(held: &[u8; 128], inputs: &[i32; 1280], c: usize) -> bool
     ensures { result ≡ every 16 (from c (good_input held.now inputs.now)) }
 {
     let mut good = true;
-    let mut k: usize = 0;
-    while k < 16 {
+    for k in 0..16 {
         let i = c + k;
         let mark = held[i];
         good = both(good_input(mark, inputs, i), good);
-        k += 1;
     }
     good
 }
@@ -98,11 +92,9 @@ fn unmarked(held: &[u8; 128], c: usize) -> bool
     ensures { result ≡ every 16 (from c (no_mark held.now)) }
 {
     let mut none = true;
-    let mut k: usize = 0;
-    while k < 16 {
+    for k in 0..16 {
         let mark = held[c + k];
         none = both(mark == 0, none);
-        k += 1;
     }
     none
 }
@@ -122,10 +114,8 @@ fn good_inputs(held: &[u8; 128], inputs: &[i32; 1280]) -> bool
     ensures { result ≡ good_inputs held.now inputs.now }
 {
     let mut good = true;
-    let mut b: usize = 0;
-    while b < 8 {
+    for b in 0..8 {
         good = both(good_sixteen(held, inputs, 16 * b), good);
-        b += 1;
     }
     good
 }

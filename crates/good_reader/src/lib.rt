@@ -7,7 +7,7 @@ ghost use Rattle.state.specs.State.{entries_with, good_pending, good_scalars, re
 ghost use Rattle.state.specs.steps.Parts.{good_kind};
 
 use kinds::{Kind, Version};
-use state::Scalars;
+use state::{Memory, Scalars};
 
 fn at_least(low: i32, x: i32) -> bool
     ensures { result ≡ le_z low x }
@@ -20,20 +20,8 @@ fn good_kind(version: Version, kind: Kind) -> bool
 {
     match kind {
         Kind::PlayerDiff(cid) => at_least(0, cid),
-        Kind::Finish => true,
-        Kind::TickSkip => true,
-        Kind::PlayerNew(_) => true,
-        Kind::PlayerOld(_) => true,
-        Kind::InputDiff => true,
-        Kind::InputNew => true,
-        Kind::Message => true,
-        Kind::Join => true,
-        Kind::Drop => true,
-        Kind::ConsoleCommand => true,
-        Kind::Ex => match version {
-            Version::V1 => false,
-            Version::V2 => true,
-        },
+        Kind::Ex => matches!(version, Version::V2),
+        _ => true,
     }
 }
 
@@ -73,5 +61,19 @@ pub fn good_state<'a>(
     good::both(
         good_scalars(s),
         good::good_lent(marks, xs, ys, held, inputs),
+    )
+}
+
+// The test of a reader whose memory is lent.
+pub fn good_memory(s: Scalars, m: &Memory) -> bool
+    ensures { result ≡ good_reader (reader_with s m.now.entries) }
+{
+    good_state(
+        s,
+        &m.entries.marks,
+        &m.entries.xs,
+        &m.entries.ys,
+        &m.entries.held,
+        &m.entries.inputs,
     )
 }

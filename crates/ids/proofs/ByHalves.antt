@@ -48,20 +48,25 @@ number_same n m (x ∷ xs) (y ∷ ys) l a b e =
 
 -- ---- four bytes and eight at a place
 
-module _ (s : List ℕ) (a : ℕ) where
-  pub four : a + 4 ≤ length s → take 4 (drop a s) ≡ get_or s a 0 ∷ get_or s (a + 1) 0 ∷ get_or s (a + 2) 0 ∷ get_or s (a + 3) 0 ∷ []
-  four h =
-      let p : a + 1 + 1 ≡ a + 2 = omega arith in
-      let q : a + 2 + 1 ≡ a + 3 = omega arith in
-      rw (front s a 3 (omega arith), front s (a + 1) 2 (omega arith), p, front s (a + 2) 1 (omega arith), q, front s (a + 3) 0 (omega arith))
+four : (s : List ℕ) (a : ℕ) → a + 4 ≤ length s → take 4 (drop a s) ≡ get_or s a 0 ∷ get_or s (a + 1) 0 ∷ get_or s (a + 2) 0 ∷ get_or s (a + 3) 0 ∷ []
+four s a h =
+    let p : a + 1 + 1 ≡ a + 2 = omega arith in
+    let q : a + 2 + 1 ≡ a + 3 = omega arith in
+    rw (front s a 3 (omega arith), front s (a + 1) 2 (omega arith), p, front s (a + 2) 1 (omega arith), q, front s (a + 3) 0 (omega arith))
 
+module _ (s : List ℕ) (a : ℕ) where
   halved : (n : ℕ) → take (n + n) (drop a s) ≡ take n (drop a s) ++ take n (drop (a + n) s)
   halved n = rw (take-add n n (drop a s), drop-drop n a s)
 
-pub eight : (s : List ℕ) (a : ℕ) → a + 8 ≤ length s
-    → big_endian 0 (take 4 (drop a s)) * 4294967296 + big_endian 0 (take 4 (drop (a + 4) s)) ≡ big_endian 0 (take 8 (drop a s))
-eight s a h =
-    rw (halved s a 4, number_append 0 (take 4 (drop a s)) (take 4 (drop (a + 4) s)), four s (a + 4) (omega arith)) (omega arith)
+  pub eight : a + 8 ≤ length s
+      → take 8 (drop a s)
+      ≡ get_or s a 0 ∷ get_or s (a + 1) 0 ∷ get_or s (a + 2) 0 ∷ get_or s (a + 3) 0 ∷ get_or s (a + 4) 0 ∷ get_or s (a + 5) 0 ∷ get_or s (a + 6) 0
+      ∷ get_or s (a + 7) 0 ∷ []
+  eight h =
+      let p : a + 4 + 1 ≡ a + 5 = omega arith in
+      let q : a + 4 + 2 ≡ a + 6 = omega arith in
+      let r : a + 4 + 3 ≡ a + 7 = omega arith in
+      rw (halved 4, four s a (omega arith), four s (a + 4) (omega arith), p, q, r)
 
 -- ---- each byte of a half can be had back
 

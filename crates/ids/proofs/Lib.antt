@@ -1,4 +1,3 @@
-pub mod Keys
 pub mod Below
 pub mod Same
 pub mod ByHalves

@@ -1,6 +1,5 @@
 -- The identifiers of the extensions and the magic: 16 bytes each, and an identifier names its extension. Assumes nothing.
 use Rattle.std.specs.Prelude.{Some, None}
-use Prim.Native.Nat.{ℕ, ◌<◌}
 use mathlib.Core.Path.{◌≡◌, refl}
 use mathlib.Core.Bool.{true}
 use mathlib.Core.List.{[]}

@@ -65,16 +65,7 @@ fn byte_of(half: u64, j: usize) -> u8
     requires { j < 8 }
     ensures { result ≡ half / 256 ^ (7 - j) % 256 }
 {
-    match j {
-        0 => (half / 72057594037927936 % 256) as u8,
-        1 => (half / 281474976710656 % 256) as u8,
-        2 => (half / 1099511627776 % 256) as u8,
-        3 => (half / 4294967296 % 256) as u8,
-        4 => (half / 16777216 % 256) as u8,
-        5 => (half / 65536 % 256) as u8,
-        6 => (half / 256 % 256) as u8,
-        _ => (half % 256) as u8,
-    }
+    half.to_be_bytes()[j]
 }
 
 // A byte of an extension's identifier; 0 past its end.
@@ -91,26 +82,21 @@ pub fn id_byte(which: Extension, i: usize) -> u8
     byte_of(id.second, i - 8)
 }
 
-fn wide(b: u8) -> u64
-    ensures { (result ≡ b) × (result < 256) }
-{
-    b as u64
-}
-
-// Four bytes at a place, as a number.
-fn quad(s: &[u8], at: usize) -> u64
-    requires { at + 4 ≤ length s.now }
-    ensures { (result ≡ big_endian 0 (take 4 (drop at s.now))) × (result < 4294967296) }
-{
-    ((wide(s[at]) * 256 + wide(s[at + 1])) * 256 + wide(s[at + 2])) * 256 + wide(s[at + 3])
-}
-
 // Eight bytes at a place, as a number.
 fn word(s: &[u8], at: usize) -> u64
     requires { at + 8 ≤ length s.now }
     ensures { result ≡ big_endian 0 (take 8 (drop at s.now)) }
 {
-    quad(s, at) * 4294967296 + quad(s, at + 4)
+    u64::from_be_bytes([
+        s[at],
+        s[at + 1],
+        s[at + 2],
+        s[at + 3],
+        s[at + 4],
+        s[at + 5],
+        s[at + 6],
+        s[at + 7],
+    ])
 }
 
 // Whether the 16 bytes at a place are those of the halves.
@@ -118,10 +104,7 @@ fn same_bytes(s: &[u8], at: usize, id: Halves) -> bool
     requires { at + 16 ≤ length s.now }
     ensures { TellsSame (take 16 (drop at s.now)) id result }
 {
-    if word(s, at) != id.first {
-        return false;
-    }
-    word(s, at + 8) == id.second
+    word(s, at) == id.first && word(s, at + 8) == id.second
 }
 
 // Which of the 20 extensions the 16 bytes at a place name; none if they reach outside the window.
@@ -134,13 +117,11 @@ pub fn find_id(s: &[u8], at: usize) -> Option<Extension>
     if s.len() - at < 16 {
         return None;
     }
-    let mut k = 0;
-    while k < 20 {
+    for k in 0..20 {
         let which = extensions::extension_at(k);
         if same_bytes(s, at, id_halves(which)) {
             return Some(which);
         }
-        k += 1;
     }
     None
 }

@@ -13,7 +13,8 @@ use mir.Val.{SFits, to_z, of_z}
 use Rattle.refusal.specs.declared.Refusal.{Refusal}
 use Rattle.refusal.specs.declared.Refusal.TheVariants.{ClientTooLarge, InputDiffWithoutNew}
 use Rattle.item.specs.Said.{gives}
-use Rattle.state.specs.State.{Memory, holds, ten_of}
+use Rattle.state.specs.State.{holds, ten_of}
+use Rattle.state.specs.declared.Memory.{Memory}
 use Rattle.state.specs.Reading.{input, step_of, refusal_step, sums, changed, input_diff, input_new}
 use Rattle.state.specs.steps.Inside.{no_entry}
 use Rattle.state.specs.declared.Scalars.{Scalars}

@@ -1,38 +1,36 @@
-// The input records on entries that are lent, with the ten numbers and the former ten. No input record touches the player entries.
+// The input records on memory that is lent.
 #![tactic(auto)]
 
-ghost use Rattle.std.specs.Prelude.{◌≡◌, ◌<◌, cond, ltb};
+ghost use Rattle.std.specs.Prelude.{◌≡◌, ◌≤◌, ◌+◌, ◌*◌, cond, ltb};
 ghost use Rattle.fields.specs.Views.{zeros};
-ghost use Rattle.state.specs.State.{Memory, ten_of, put_ten};
+ghost use Rattle.state.specs.State.{ten_of, put_ten};
 ghost use Rattle.state.specs.Reading.{sums, input_diff, input_new};
-ghost use Rattle.state.specs.steps.Inside.{OnInputs};
+ghost use Rattle.state.specs.steps.Inside.{done};
 
 use refusal::Refusal;
-use state::{Event, Outcome, Scalars};
+use state::{Event, Memory, Outcome, Scalars};
 
-fn take_ten(inputs: &[i32; 1280], c: usize) -> [i32; 10]
-    requires { c < 128 }
-    ensures { result ≡ ten_of inputs.now c }
+// The ten numbers at place p of an array of tens.
+pub fn take_ten<const N: usize>(numbers: &[i32; N], p: usize) -> [i32; 10]
+    requires { 10 * p + 10 ≤ N }
+    ensures { result ≡ ten_of numbers.now p }
 {
     let mut t = [0i32; 10];
-    let mut k: usize = 0;
-    while k < 10 {
-        let x = inputs[10 * c + k];
+    for k in 0..10 {
+        let x = numbers[10 * p + k];
         t[k] = x;
-        k += 1;
     }
     t
 }
 
-fn put_ten(inputs: &mut [i32; 1280], c: usize, t: [i32; 10])
-    requires { c < 128 }
-    ensures { inputs.new ≡ put_ten inputs.old c t }
+// Ten numbers at place p of an array of tens.
+pub fn put_ten<const N: usize>(numbers: &mut [i32; N], p: usize, t: [i32; 10])
+    requires { 10 * p + 10 ≤ N }
+    ensures { numbers.new ≡ put_ten numbers.old p t }
 {
-    let mut k: usize = 0;
-    while k < 10 {
+    for k in 0..10 {
         let x = t[k];
-        inputs[10 * c + k] = x;
-        k += 1;
+        numbers[10 * p + k] = x;
     }
 }
 
@@ -41,67 +39,47 @@ fn add_ten(f: [i32; 10], d: [i32; 10]) -> [i32; 10]
     ensures { result ≡ sums f d }
 {
     let mut t = [0i32; 10];
-    let mut k: usize = 0;
-    while k < 10 {
+    for k in 0..10 {
         let x = num::wrapping_add(f[k], d[k]);
         t[k] = x;
-        k += 1;
     }
     t
 }
 
-pub fn input_diff(
-    s: Scalars,
-    held: &mut [u8; 128],
-    inputs: &mut [i32; 1280],
-    input: &mut [i32; 10],
-    former: &mut [i32; 10],
-    cid: i32,
-    ds: [i32; 10],
-    used: usize,
-) -> Outcome
-    ensures { OnInputs (λ (m : Memory). input_diff s m cid ds used) result held.old inputs.old input.old former.old held.new inputs.new input.new former.new }
+pub fn input_diff(s: Scalars, m: &mut Memory, cid: i32, ds: [i32; 10], used: usize) -> Outcome
+    ensures { done result m.new ≡ input_diff s m.old cid ds used }
 {
     let bits = num::bits(cid);
     if 128 <= bits {
         return ticks::refuse(s, ticks::no_entry(bits, Refusal::InputDiffWithoutNew));
     }
     let c = bits as usize;
-    if held[c] != 1 {
+    if m.entries.held[c] != 1 {
         return ticks::refuse(s, Refusal::InputDiffWithoutNew);
     }
-    let old = take_ten(&*inputs, c);
+    let old = take_ten(&m.entries.inputs, c);
     let new = add_ten(old, ds);
-    put_ten(&mut *inputs, c, new);
-    *input = new;
-    *former = old;
-    held[c] = 1;
+    put_ten(&mut m.entries.inputs, c, new);
+    m.input = new;
+    m.former = old;
+    m.entries.held[c] = 1;
     ticks::gave(Event::Input { cid, former: true }, used, s)
 }
 
-pub fn input_new(
-    s: Scalars,
-    held: &mut [u8; 128],
-    inputs: &mut [i32; 1280],
-    input: &mut [i32; 10],
-    former: &mut [i32; 10],
-    cid: i32,
-    ns: [i32; 10],
-    used: usize,
-) -> Outcome
-    ensures { OnInputs (λ (m : Memory). input_new s m cid ns used) result held.old inputs.old input.old former.old held.new inputs.new input.new former.new }
+pub fn input_new(s: Scalars, m: &mut Memory, cid: i32, ns: [i32; 10], used: usize) -> Outcome
+    ensures { done result m.new ≡ input_new s m.old cid ns used }
 {
     let bits = num::bits(cid);
     if 128 <= bits {
         return ticks::refuse(s, ticks::no_entry(bits, Refusal::ClientTooLarge));
     }
     let c = bits as usize;
-    let mark = held[c];
-    let old = take_ten(&*inputs, c);
-    put_ten(&mut *inputs, c, ns);
-    *input = ns;
-    *former = old;
-    held[c] = 1;
+    let mark = m.entries.held[c];
+    let old = take_ten(&m.entries.inputs, c);
+    put_ten(&mut m.entries.inputs, c, ns);
+    m.input = ns;
+    m.former = old;
+    m.entries.held[c] = 1;
     let event = Event::Input {
         cid,
         former: mark == 1,

@@ -47,23 +47,22 @@ fn later_byte(rest: u32) -> u8
 }
 
 // How many bytes follow the first.
+#[tactic(auto, unfolding(varint::specs::Written::later_bytes))]
 fn later_count(rest: u32) -> usize
     requires { rest < 268435456 }
     ensures { result ≡ length (later_bytes 4 rest) }
 {
-    if rest == 0 {
-        return 0;
+    match rest {
+        0 => 0,
+        1..128 => 1,
+        128..16384 => 2,
+        16384..2097152 => 3,
+        _ => 4,
     }
-    if rest < 128 {
-        return 1;
-    }
-    if rest < 16384 {
-        return 2;
-    }
-    if rest < 2097152 { 3 } else { 4 }
 }
 
 // How many bytes the written form has.
+#[tactic(auto, using(varint::proofs::Writing::later_le), unfolding(varint::specs::Written::canonical))]
 pub fn int_size(value: i32) -> usize
     ensures { result ≡ length (canonical value) }
 {
@@ -76,19 +75,14 @@ pub fn write_int(value: i32, out: &mut [u8], at: usize) -> Result<usize, Refusal
     ensures target { out.new ≡ written out.old at (canonical value) }
 {
     let count = int_size(value);
-    if out.len() < at {
-        return Err(Refusal::ShortTarget);
-    }
-    if out.len() - at < count {
+    if out.len().saturating_sub(at) < count {
         return Err(Refusal::ShortTarget);
     }
     out[at] = first_byte(value);
     let mut rest = magnitude(value) / 64;
-    let mut i = at + 1;
-    while rest != 0 {
+    for i in at + 1..at + count {
         out[i] = later_byte(rest);
-        rest = rest / 128;
-        i += 1;
+        rest /= 128;
     }
-    Ok(i)
+    Ok(at + count)
 }

@@ -7,9 +7,10 @@ ghost use Rattle.state.specs.State.{ten_of, put_ten};
 ghost use Rattle.state.specs.Views.{event_is};
 ghost use Rattle.teams.specs.steps.Joinings.{joining_is};
 ghost use Rattle.back.specs.Undo.{undo_of, undo_joining};
-ghost use Rattle.reel.specs.Reel.{flag, numbers_of, reel_of, keeping};
+ghost use Rattle.reel.specs.Reel.{numbers_of, reel_of, keeping};
 ghost use Rattle.keeping.specs.steps.Lent.{Stored, kept_is};
 
+use inputs::{put_ten, take_ten};
 use reel::{Counts, KeepAnswer, KeptReel, Reel};
 use refusal::Refusal;
 use state::Event;
@@ -20,32 +21,6 @@ use teams::PlayerTeam;
 pub struct KeptCounts {
     pub answer: KeepAnswer,
     pub counts: Counts,
-}
-
-fn take_ten(numbers: &[i32; 5120], p: usize) -> [i32; 10]
-    requires { p < 512 }
-    ensures { result ≡ ten_of numbers.now p }
-{
-    let mut t = [0i32; 10];
-    let mut k: usize = 0;
-    while k < 10 {
-        let x = numbers[10 * p + k];
-        t[k] = x;
-        k += 1;
-    }
-    t
-}
-
-fn put_ten(numbers: &mut [i32; 5120], p: usize, t: [i32; 10])
-    requires { p < 512 }
-    ensures { numbers.new ≡ put_ten numbers.old p t }
-{
-    let mut k: usize = 0;
-    while k < 10 {
-        let x = t[k];
-        numbers[10 * p + k] = x;
-        k += 1;
-    }
 }
 
 // The ten numbers at a place; zeros where there is no such place.
@@ -63,23 +38,7 @@ fn put_row(rows: &mut [i32; 5120], p: usize, k: i32, a: i32, b: i32, c: i32, d: 
     requires { p < 512 }
     ensures { rows.new ≡ put_ten rows.old p (k ∷ a ∷ b ∷ c ∷ d ∷ e ∷ pos 0 ∷ pos 0 ∷ pos 0 ∷ pos 0 ∷ []) }
 {
-    let at = 10 * p;
-    rows[at] = k;
-    rows[at + 1] = a;
-    rows[at + 2] = b;
-    rows[at + 3] = c;
-    rows[at + 4] = d;
-    rows[at + 5] = e;
-    rows[at + 6] = 0;
-    rows[at + 7] = 0;
-    rows[at + 8] = 0;
-    rows[at + 9] = 0;
-}
-
-fn flag_of(b: bool) -> i32
-    ensures { result ≡ flag b }
-{
-    if b { 1 } else { 0 }
+    put_ten(rows, p, [k, a, b, c, d, e, 0, 0, 0, 0]);
 }
 
 // The row of a record, in its place.
@@ -129,7 +88,7 @@ fn store(
         } => put_row(rows, p, 4, cid, x, y, old_x, old_y),
         Event::PlayerOld { cid, x, y } => put_row(rows, p, 5, cid, x, y, 0, 0),
         Event::Input { cid, former: had } => {
-            put_row(rows, p, 6, cid, flag_of(had), 0, 0, 0);
+            put_row(rows, p, 6, cid, i32::from(had), 0, 0, 0);
             put_ten(&mut *inputs, p, *input);
             put_ten(&mut *formers, p, *former);
         }

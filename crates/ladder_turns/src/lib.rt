@@ -25,21 +25,13 @@ impl After {
     pub fn wants(self) -> bool
         ensures { result ≡ read_follows (next_is self) }
     {
-        match self {
-            After::GoesOn => false,
-            After::Wants => true,
-            After::Ends(_) => false,
-        }
+        matches!(self, After::Wants)
     }
 
     pub fn ends(self) -> bool
         ensures { result ≡ is_over (next_is self) }
     {
-        match self {
-            After::GoesOn => false,
-            After::Wants => false,
-            After::Ends(_) => true,
-        }
+        matches!(self, After::Ends(_))
     }
 }
 
@@ -75,22 +67,13 @@ fn after_turn(short: bool, end: End, gave: bool) -> After
     }
 }
 
-fn least(a: usize, b: usize) -> usize
-    ensures { result ≡ min a b }
-{
-    if a < b {
-        return a;
-    }
-    b
-}
-
 // All the reading calls that the window at the front of the bytes allows, and their finishes into the list. The bytes are those at hand from
 // the reader's place on; where the input has ended, they are all that are left.
 pub fn turn(list: Results, reader: Reader, bytes: &[u8], ended: bool) -> ListTurn
     ensures { turned_is result ≡ turn_on list reader bytes.now ended }
 {
     let short = bytes.len() < FULL;
-    let end = least(bytes.len(), FULL);
+    let end = bytes.len().min(FULL);
     let read = listing::read_on(list, reader, &bytes[..end], windows::is_last(ended, short));
     let stop = read.end;
     let next_list = read.list;

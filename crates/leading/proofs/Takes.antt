@@ -12,7 +12,8 @@ use Rattle.kinds.specs.declared.Kind.{Kind}
 use Rattle.item.specs.Records.{content}
 use Rattle.item.specs.declared.Tag.{Tag}
 use Rattle.written.specs.Written.{kind_bytes, write_content}
-use Rattle.state.specs.State.{Memory, reader_with}
+use Rattle.state.specs.State.{reader_with}
+use Rattle.state.specs.declared.Memory.{Memory}
 use Rattle.state.specs.Reading.{Step, starting, good_call, read_call, reader_after, is_closed}
 use Rattle.state.specs.Acts.{wants_tick, Act}
 use Rattle.state.specs.Acts as act

@@ -8,7 +8,7 @@
 use kinds::Version;
 use lines::Ending;
 use many::{ManyAnswer, Stop};
-use state::{Answer, Entries, Reader};
+use state::{Answer, Memory, Reader};
 use teams::TeamReader;
 use texts::Text;
 
@@ -62,43 +62,22 @@ struct LentRead {
 
 fn lent_call(reader: Reader, body: &[u8]) -> LentRead {
     let scalars = reader.scalars;
-    let entries = reader.entries;
-    let mut marks = entries.marks;
-    let mut xs = entries.xs;
-    let mut ys = entries.ys;
-    let mut held = entries.held;
-    let mut inputs = entries.inputs;
-    let mut input = [1i32; 10];
-    let mut former = [2i32; 10];
-    let o = lent::read_plain(
-        scalars,
-        &mut marks,
-        &mut xs,
-        &mut ys,
-        &mut held,
-        &mut inputs,
-        &mut input,
-        &mut former,
-        body,
-        true,
-    );
+    let mut m = Memory {
+        entries: reader.entries,
+        input: [1; 10],
+        former: [2; 10],
+    };
+    let o = lent::read_plain(scalars, &mut m, body, true);
     let answer = o.answer;
     let left = o.scalars;
-    let now = Entries {
-        marks,
-        xs,
-        ys,
-        held,
-        inputs,
-    };
     LentRead {
         answer,
         reader: Reader {
             scalars: left,
-            entries: now,
+            entries: m.entries,
         },
-        input,
-        former,
+        input: m.input,
+        former: m.former,
     }
 }
 

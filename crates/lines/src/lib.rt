@@ -110,11 +110,9 @@ fn put_numbers(ns: &[i32], out: &mut [u8], at: usize) -> usize
     requires { at + length (decimals ns.now) ≤ length out.old }
     ensures { PutsText out.old at (decimals ns.now) result out.new }
 {
-    let mut i = 0;
     let mut next = at;
-    while i < ns.len() {
-        next = put_spaced(ns[i], out, next);
-        i += 1;
+    for n in ns {
+        next = put_spaced(*n, out, next);
     }
     next
 }

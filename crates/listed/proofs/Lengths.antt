@@ -15,7 +15,7 @@ use Rattle.item.specs.Records.{Content, Rest, fields, extension, rest_of, as_con
 use Rattle.item.specs.Contents.{by_tag}
 use Rattle.item.specs.declared.Tag.TheVariants.{Plain}
 use Rattle.kinds.specs.declared.Kind.{Kind}
-use Rattle.state.specs.State.{Memory}
+use Rattle.state.specs.declared.Memory.{Memory}
 use Rattle.state.specs.Reading.{Event, Step, reader_after}
 use Rattle.state.specs.Acts.{Act, ReadAct}
 use Rattle.state.specs.Acts as act

@@ -10,7 +10,7 @@ use lib.IntN.{ℤ}
 use Rattle.refusal.specs.Numbers.{number_of, values_of}
 use Rattle.refusal.specs.declared.Refusal.{Refusal}
 use Rattle.refusal.specs.declared.Refusal.TheVariants.{BadState}
-use Rattle.state.specs.State.{Memory}
+use Rattle.state.specs.declared.Memory.{Memory}
 use Rattle.state.specs.Reading.{good_call, read_call}
 use Rattle.state.specs.Views.{event_is}
 use Rattle.state.specs.Slim.{said_is, slim_step}

@@ -2,7 +2,7 @@
 #![tactic(auto)]
 
 ghost use Rattle.std.specs.Prelude.{◌≡◌, true};
-ghost use Rattle.state.specs.State.{entries_with, reader_with, good_reader};
+ghost use Rattle.state.specs.State.{reader_with, good_reader};
 ghost use Rattle.state.specs.Views.{event_is};
 ghost use Rattle.state.specs.Laws.{Sound};
 ghost use Rattle.results.specs.Results.{results_with};
@@ -11,7 +11,7 @@ ghost use Rattle.listing.specs.steps.Lists.{KeepsEvent, calls_read, unchanged, c
 
 use refusal::Refusal;
 use results::Results;
-use state::{Answer, Entries, Event, Reader, Scalars};
+use state::{Answer, Entries, Event, Memory, Reader, Scalars};
 
 // Why the calls stopped.
 #[derive(Clone, Copy)]
@@ -31,7 +31,7 @@ pub struct ListRead {
     pub reader: Reader,
 }
 
-// The same where entries and list are lent, and whether the list's count could rise that far.
+// The same where memory and list are lent, and whether the list's count could rise that far.
 #[derive(Clone, Copy)]
 struct CallsRead {
     fits: bool,
@@ -92,17 +92,11 @@ fn stopped(
     }
 }
 
-// Calls on lent entries while they give events, and the finishes among these into a lent list. What input and former hold before is
+// Calls on lent memory while they give events, and the finishes among these into a lent list. What input and former hold before is
 // never seen.
 fn list_calls(
     scalars: Scalars,
-    marks: &mut [u8; 128],
-    xs: &mut [i32; 128],
-    ys: &mut [i32; 128],
-    held: &mut [u8; 128],
-    inputs: &mut [i32; 1280],
-    input: &mut [i32; 10],
-    former: &mut [i32; 10],
+    m: &mut Memory,
     w: &[u8],
     last: bool,
     others: u64,
@@ -110,27 +104,16 @@ fn list_calls(
     times: &mut [i32; 128],
     ticks: &mut [i32; 128],
 ) -> CallsRead
-    requires { Sound (reader_with scalars (entries_with marks.old xs.old ys.old held.old inputs.old)) }
-    ensures { said_calls (results_with listed.old times.old ticks.old others) (reader_with scalars (entries_with marks.old xs.old ys.old held.old inputs.old)) result (results_with listed.new times.new ticks.new result.others) (entries_with marks.new xs.new ys.new held.new inputs.new)
-        ≡ list_run (results_with listed.old times.old ticks.old others) (reader_with scalars (entries_with marks.old xs.old ys.old held.old inputs.old)) (whole_run (reader_with scalars (entries_with marks.old xs.old ys.old held.old inputs.old)) w.now last) }
+    requires { Sound (reader_with scalars m.old.entries) }
+    ensures { said_calls (results_with listed.old times.old ticks.old others) (reader_with scalars m.old.entries) result (results_with listed.new times.new ticks.new result.others) m.new.entries
+        ≡ list_run (results_with listed.old times.old ticks.old others) (reader_with scalars m.old.entries) (whole_run (reader_with scalars m.old.entries) w.now last) }
 {
     let mut s = scalars;
     let mut count = others;
     let mut used: usize = 0;
     let mut gave = false;
     while used <= w.len() {
-        let o = step::good_call(
-            s,
-            marks,
-            xs,
-            ys,
-            held,
-            inputs,
-            input,
-            former,
-            &w[used..],
-            last,
-        );
+        let o = step::good_call(s, m, &w[used..], last);
         let next = o.scalars;
         let answer = o.answer;
         s = next;
@@ -177,26 +160,13 @@ fn list_good(list: Results, reader: Reader, window: &[u8], last: bool) -> ListRe
     ensures { said_run result ≡ list_run list reader (whole_run reader window.now last) }
 {
     let scalars = reader.scalars;
-    let entries = reader.entries;
-    let mut marks = entries.marks;
-    let mut xs = entries.xs;
-    let mut ys = entries.ys;
-    let mut held = entries.held;
-    let mut inputs = entries.inputs;
-    let mut input = [0i32; 10];
-    let mut former = [0i32; 10];
+    let mut m = Memory::of(reader.entries);
     let mut listed = list.marks;
     let mut times = list.times;
     let mut ticks = list.ticks;
     let r = list_calls(
         scalars,
-        &mut marks,
-        &mut xs,
-        &mut ys,
-        &mut held,
-        &mut inputs,
-        &mut input,
-        &mut former,
+        &mut m,
         window,
         last,
         list.others,
@@ -207,13 +177,7 @@ fn list_good(list: Results, reader: Reader, window: &[u8], last: bool) -> ListRe
     if !r.fits {
         return unread(Refusal::BadState, list, reader);
     }
-    let left = Entries {
-        marks,
-        xs,
-        ys,
-        held,
-        inputs,
-    };
+    let left = m.entries;
     let after = Results {
         marks: listed,
         times,

@@ -1,8 +1,7 @@
 // Lookups in the entries of a reader or a board.
 #![tactic(auto)]
 
-ghost use Rattle.std.specs.Prelude.{◌≡◌, false};
-ghost use Rattle.fields.specs.Views.{zeros};
+ghost use Rattle.std.specs.Prelude.{◌≡◌};
 ghost use Rattle.lookups.specs.Lookups.{pos_of, input_for};
 
 use state::Entries;

@@ -9,7 +9,8 @@ use lib.Seq.{take_all}
 use Rattle.refusal.specs.Numbers.{number_of, values_of}
 use Rattle.refusal.specs.declared.Refusal.{Refusal}
 use Rattle.item.specs.Said.{Said, more, finish, refusing}
-use Rattle.state.specs.State.{Memory, reader_with, good_reader}
+use Rattle.state.specs.State.{reader_with, good_reader}
+use Rattle.state.specs.declared.Memory.{Memory}
 use Rattle.state.specs.Reading.{Event, Step, is_closed, good_call, read_call, reader_after}
 use Rattle.state.specs.Views.{event_is}
 use Rattle.state.specs.Slim.{said_is, slim_said, slim_step}

@@ -10,7 +10,7 @@ use lib.ListN.{length, drop}
 use lib.IntN.{ℤ, pos}
 use Rattle.num.specs.Wrap.{wrap32}
 use Rattle.item.specs.Said.{Said}
-use Rattle.state.specs.State.{Memory}
+use Rattle.state.specs.declared.Memory.{Memory}
 use Rattle.state.specs.Reading.{Event, Step, good_call, read_call}
 use Rattle.state.specs.Views.{event_is}
 use Rattle.state.specs.Slim.{slim_step}

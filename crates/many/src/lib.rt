@@ -2,7 +2,7 @@
 #![tactic(auto)]
 
 ghost use Rattle.std.specs.Prelude.{◌≡◌, true};
-ghost use Rattle.state.specs.State.{entries_with, reader_with, good_reader};
+ghost use Rattle.state.specs.State.{reader_with, good_reader};
 ghost use Rattle.state.specs.Laws.{Sound};
 ghost use Rattle.calls.specs.Along.{calls};
 ghost use Rattle.rows.specs.Rows.{room};
@@ -10,7 +10,7 @@ ghost use Rattle.many.specs.Many.{many_calls, ManyIs};
 ghost use Rattle.many.specs.steps.Stores.{Room, rows_read, answer_of, not_read};
 
 use refusal::Refusal;
-use state::{Answer, Entries, Reader, Scalars};
+use state::{Answer, Entries, Memory, Reader, Scalars};
 use teams::TeamReader;
 
 // Why the calls stopped: no room for another event, or the answer to the last call, which gave no event.
@@ -31,7 +31,7 @@ pub struct ManyAnswer {
     pub reader: TeamReader,
 }
 
-// The same where entries and teams are lent.
+// The same where memory and teams are lent.
 #[derive(Clone, Copy)]
 struct RowsRead {
     stop: Stop,
@@ -51,49 +51,34 @@ fn stopped(stop: Stop, count: usize, used: usize, scalars: Scalars) -> RowsRead
     }
 }
 
-// Calls on lent entries and teams while there is room and they give events. What input and former hold before is never seen.
+// Calls on lent memory and teams while there is room and they give events. What input and former hold before is never seen.
 fn read_rows(
     scalars: Scalars,
-    marks: &mut [u8; 128],
-    xs: &mut [i32; 128],
-    ys: &mut [i32; 128],
-    held: &mut [u8; 128],
-    inputs: &mut [i32; 1280],
+    m: &mut Memory,
     teams: &mut [i32; 256],
-    input: &mut [i32; 10],
-    former: &mut [i32; 10],
     w: &[u8],
     last: bool,
     rows: &mut [i32],
     tens: &mut [i32],
     room: usize,
 ) -> RowsRead
-    requires { Sound (reader_with scalars (entries_with marks.old xs.old ys.old held.old inputs.old)) × Room room rows.old tens.old }
-    ensures { ManyIs (calls room (reader_with scalars (entries_with marks.old xs.old ys.old held.old inputs.old)) w.now last) teams.old rows.old tens.old (answer_of result (entries_with marks.new xs.new ys.new held.new inputs.new) teams.new) rows.new tens.new }
+    requires { Sound (reader_with scalars m.old.entries) × Room room rows.old tens.old }
+    ensures { ManyIs (calls room (reader_with scalars m.old.entries) w.now last) teams.old rows.old tens.old (answer_of result m.new.entries teams.new) rows.new tens.new }
 {
     let mut s = scalars;
     let mut count: usize = 0;
     let mut used: usize = 0;
     while count < room {
         let pending = rows::pending_flag(s);
-        let o = step::good_call(
-            s,
-            marks,
-            xs,
-            ys,
-            held,
-            inputs,
-            input,
-            former,
-            &w[used..],
-            last,
-        );
+        let o = step::good_call(s, m, &w[used..], last);
         let next = o.scalars;
         let answer = o.answer;
         s = next;
         match answer {
             Answer::Event { event, used: n } => {
-                rows::put_event(event, n, pending, count, teams, rows, tens, input, former);
+                rows::put_event(
+                    event, n, pending, count, teams, rows, tens, &m.input, &m.former,
+                );
                 used += n;
                 count += 1;
             }
@@ -119,38 +104,10 @@ fn read_good(
     requires { (good_reader (reader_with scalars entries) ≡ true) × Room room rows.old tens.old }
     ensures { ManyIs (calls room (reader_with scalars entries) window.now last) given rows.old tens.old result rows.new tens.new }
 {
-    let mut marks = entries.marks;
-    let mut xs = entries.xs;
-    let mut ys = entries.ys;
-    let mut held = entries.held;
-    let mut inputs = entries.inputs;
+    let mut m = Memory::of(entries);
     let mut teams = given;
-    let mut input = [0i32; 10];
-    let mut former = [0i32; 10];
-    let r = read_rows(
-        scalars,
-        &mut marks,
-        &mut xs,
-        &mut ys,
-        &mut held,
-        &mut inputs,
-        &mut teams,
-        &mut input,
-        &mut former,
-        window,
-        last,
-        rows,
-        tens,
-        room,
-    );
-    let left = Entries {
-        marks,
-        xs,
-        ys,
-        held,
-        inputs,
-    };
-    answer_of(r, left, teams)
+    let r = read_rows(scalars, &mut m, &mut teams, window, last, rows, tens, room);
+    answer_of(r, m.entries, teams)
 }
 
 fn answer_of(r: RowsRead, entries: Entries, teams: [i32; 256]) -> ManyAnswer

@@ -10,18 +10,14 @@ ghost use Rattle.num.specs.Wrap.{wrap32};
 pub fn bits(x: i32) -> u32
     ensures { result ≡ of_z w32 x }
 {
-    if x < 0 { !((!x) as u32) } else { x as u32 }
+    x.cast_unsigned()
 }
 
 // The number with the bits v.
 pub fn signed(v: u32) -> i32
     ensures { result ≡ to_z w32 v }
 {
-    if v < 2147483648 {
-        v as i32
-    } else {
-        !((!v) as i32)
-    }
+    v.cast_signed()
 }
 
 // a + b, modulo 2^32.
@@ -29,7 +25,7 @@ pub fn wrapping_add(a: i32, b: i32) -> i32
     ensures value { result ≡ wrap32 (a +ℤ b) }
     ensures fits_signed { FitsSigned w32 result }
 {
-    signed(std::num::wrapping_add_u32(bits(a), bits(b)))
+    a.wrapping_add(b)
 }
 
 // a - b, modulo 2^32.
@@ -37,5 +33,5 @@ pub fn wrapping_sub(a: i32, b: i32) -> i32
     ensures value { result ≡ wrap32 (a -ℤ b) }
     ensures fits_signed { FitsSigned w32 result }
 {
-    signed(std::num::wrapping_sub_u32(bits(a), bits(b)))
+    a.wrapping_sub(b)
 }

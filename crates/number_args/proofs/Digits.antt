@@ -6,7 +6,7 @@ use mathlib.Core.Bool.{Bool, true, false, cond, ◌&&◌}
 use mathlib.Core.List.{List, [], ◌∷◌}
 use native.Mathlib.Omega.{arith}
 use native.Mathlib.Numerals.{add-one}
-use borrow.Author.Tests.{le-leb, lt-leb, leb-true}
+use borrow.Author.Tests.{leb-true}
 use lib.ListN.{length, drop, get_or, drop_of_length-le}
 use lib.Seq.{drop-cons}
 use lib.Dec.{T, leb}
@@ -18,29 +18,9 @@ abbrev pub onward : ℕ → ℕ → Bool
 onward n b = is_digit b && leb (with_digit n b) 2147483647
 
 module _ (n b : ℕ) where
-  pub too_low : b < 48 → false ≡ onward n b
-  too_low h = let t = lt-leb 48 b h in simp t
-
-  pub too_high : 48 ≤ b → 57 < b → false ≡ onward n b
-  too_high k h = let s = le-leb 48 b k in let t = lt-leb b 57 h in simp (s, t)
-
-  pub digit : 48 ≤ b → b ≤ 57 → leb (with_digit n b) 2147483647 ≡ onward n b
-  digit k h = let s = le-leb 48 b k in let t = le-leb b 57 h in simp (s, t)
-
-  pub too_large : 48 ≤ b → b ≤ 57 → 214748364 < n → false ≡ onward n b
-  too_large k h l = sym (lt-leb (with_digit n b) 2147483647 (omega arith)) ∙ digit k h
-
-  both_left : (s t : Bool) → (s && t) ≡ true → s ≡ true
-  both_left true t e = refl
-  both_left false t e = e
-
   both_right : (s t : Bool) → (s && t) ≡ true → t ≡ true
   both_right true t e = e
   both_right false t e = absurd (subst T (sym e) tt)
-
-  pub is_digit_law : onward n b ≡ true → 48 ≤ b
-  is_digit_law e =
-      leb-true 48 b (both_left (leb 48 b) (leb b 57) (both_left (is_digit b) (leb (with_digit n b) 2147483647) e))
 
   pub small : onward n b ≡ true → with_digit n b ≤ 2147483647
   small e = leb-true (with_digit n b) 2147483647 (both_right (is_digit b) (leb (with_digit n b) 2147483647) e)

@@ -9,35 +9,22 @@ fn goes_on(n: u32, byte: u8) -> bool
     requires { n ≤ 2147483647 }
     ensures { result ≡ (is_digit byte && leb (with_digit n byte) 2147483647) }
 {
-    if byte < 48 {
-        return false;
-    }
-    if 57 < byte {
-        return false;
-    }
-    let digit = byte - 48;
-    if 214748364 < n {
-        return false;
-    }
-    10 * n + digit as u32 <= 2147483647
+    byte.is_ascii_digit() && n <= 214748364 && 10 * n + (byte - b'0') as u32 <= 2147483647
 }
 
 // Decimal digits, one at least, 2147483647 at most.
 pub fn number_in(text: &[u8]) -> Option<i32>
     ensures { result ≡ number_in text.now }
 {
-    if text.len() == 0 {
+    if text.is_empty() {
         return None;
     }
     let mut n: u32 = 0;
-    let mut i: usize = 0;
-    while i < text.len() {
-        let byte = text[i];
+    for &byte in text {
         if !goes_on(n, byte) {
             return None;
         }
-        n = 10 * n + (byte - 48) as u32;
-        i += 1;
+        n = 10 * n + (byte - b'0') as u32;
     }
     Some(n as i32)
 }

@@ -26,7 +26,6 @@ use Rattle.packer.specs.Laws.{Used, LengthBelow0}
 use Rattle.packer.specs.declared.Part.{Part}
 use Rattle.packer.specs.declared.PartRead.{PartRead}
 use Rattle.packer.specs.declared.PartRead.TheVariants.{Got, RunsOut}
-use Rattle.packer.specs.declared.DataRead.{DataRead}
 use Rattle.packer.specs.declared.DataRead.TheVariants as blobs
 use Rattle.packer.proofs.Reading.{raw_fits, shown_in}
 use Rattle.packer.proofs.Places.{past, past_within, string_at, string_shown}

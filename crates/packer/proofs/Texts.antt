@@ -1,28 +1,15 @@
 -- Laws of the definitions of specs/Texts.antt. Assumes nothing.
-use Prim.Native.Nat.{ℕ, ◌+◌, ◌<◌}
+use Prim.Native.Nat.{ℕ}
 use mathlib.Core.Path.{◌≡◌}
 use mathlib.Core.Bool.{true, false}
 use mathlib.Core.List.{List, ◌∷◌}
 use native.Mathlib.Omega.{arith}
-use native.Mathlib.Numerals.{add-one}
-use lib.ListN.{length, get_or, drop}
-use lib.Seq.{drop-cons}
+use lib.ListN.{length}
 use lib.Dec.{eqb}
 use lib.IntN.{pos}
-use borrow.Author.Tests.{eq-eqb, ne_eqb}
 use Rattle.num.proofs.Cases.{by_bool}
 use Rattle.varint.specs.Written.{canonical}
 use Rattle.packer.specs.Texts.{no_zero}
-
--- one byte
-module _ (b : List ℕ) (i : ℕ) (within : i < length b) where
-  pub zero_ends : get_or b i 0 ≡ 0 → no_zero (drop i b) ≡ false
-  unfolding no_zero
-  zero_ends e = simp (drop-cons b i 0 within, eq-eqb (get_or b i 0) 0 e)
-
-  pub zero_more : (get_or b i 0 ≡ 0 → ⊥) → no_zero (drop i b) ≡ no_zero (drop (i + 1) b)
-  unfolding no_zero
-  zero_more e = simp (drop-cons b i 0 within, ne_eqb (get_or b i 0) 0 e, add-one)
 
 pub no_zero_head : (b : ℕ) (bs : List ℕ) → no_zero (b ∷ bs) ≡ true → (eqb b 0 ≡ false) × (no_zero bs ≡ true)
 unfolding no_zero

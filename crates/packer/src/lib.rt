@@ -29,50 +29,42 @@ pub enum DataRead {
 }
 
 // The part's bytes; none where it reaches outside the window.
+#[tactic(auto, using(crate::proofs::Reading::part_within, crate::proofs::Reading::part_outside))]
 pub fn show(s: &[u8], p: Part) -> &[u8]
     ensures { result.now ≡ shown s.now p }
 {
-    let at = p.at;
-    let len = p.len;
-    if s.len() < at {
-        return &s[..0];
+    match s.get(p.at..) {
+        Some(rest) if p.len <= rest.len() => &rest[..p.len],
+        _ => &s[..0],
     }
-    if s.len() - at < len {
-        return &s[..0];
-    }
-    let end = at + len;
-    &s[at..end]
 }
 
+#[tactic(auto, using(crate::proofs::Reading::raw_fits, crate::proofs::Reading::raw_short))]
 pub fn read_raw(s: &[u8], at: usize, n: usize) -> PartRead
     ensures { result ≡ read_raw n s.now at }
 {
-    if s.len() < at {
-        return PartRead::RunsOut;
-    }
-    if s.len() - at < n {
-        return PartRead::RunsOut;
-    }
-    PartRead::Got {
-        part: Part { at, len: n },
-        next: at + n,
+    match s.get(at..) {
+        Some(rest) if n <= rest.len() => PartRead::Got {
+            part: Part { at, len: n },
+            next: at + n,
+        },
+        _ => PartRead::RunsOut,
     }
 }
 
 pub fn read_string(s: &[u8], at: usize) -> PartRead
     ensures { result ≡ read_string s.now at }
 {
-    let mut i = at;
-    while i < s.len() {
-        if s[i] == 0 {
-            return PartRead::Got {
-                part: Part { at, len: i - at },
-                next: i + 1,
-            };
-        }
-        i += 1;
+    let Some(rest) = s.get(at..) else {
+        return PartRead::RunsOut;
+    };
+    match rest.iter().position(|b| *b == 0) {
+        Some(len) => PartRead::Got {
+            part: Part { at, len },
+            next: at + len + 1,
+        },
+        None => PartRead::RunsOut,
     }
-    PartRead::RunsOut
 }
 
 pub fn read_data(s: &[u8], at: usize) -> DataRead

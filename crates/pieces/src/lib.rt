@@ -113,24 +113,20 @@ pub fn payload_plan(layout: Layout, f: Fields) -> Plan
 fn number_piece(ten: [i32; 10], i: usize) -> Piece
     ensures { result ≡ get_or (number_pieces ten) i Piece.Empty }
 {
-    if i < 10 {
-        return Piece::Int(ten[i]);
+    match ten.get(i) {
+        Some(&n) => Piece::Int(n),
+        None => Piece::Empty,
     }
-    Piece::Empty
 }
 
 // The arguments of a command.
 fn arg_piece(args: Args, i: usize) -> Piece
     ensures { result ≡ get_or (arg_pieces args) i Piece.Empty }
 {
-    let parts = args.parts;
-    if args.count <= i {
-        return Piece::Empty;
+    match args.parts.get(i) {
+        Some(&part) if i < args.count => Piece::Str(part),
+        _ => Piece::Empty,
     }
-    if i < 16 {
-        return Piece::Str(parts[i]);
-    }
-    Piece::Empty
 }
 
 // Piece i of a record.

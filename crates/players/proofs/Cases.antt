@@ -17,7 +17,8 @@ use Rattle.refusal.specs.declared.Refusal.TheVariants.{
 }
 use Rattle.num.specs.Wrap.{wrap32}
 use Rattle.item.specs.Said.{gives}
-use Rattle.state.specs.State.{Memory, with_entries, present, x_of, y_of, with_player, moved}
+use Rattle.state.specs.State.{with_entries, present, x_of, y_of, with_player, moved}
+use Rattle.state.specs.declared.Memory.{Memory}
 use Rattle.state.specs.Reading.{player_new, player_change, player_old, step_of, refusal_step, player_diff, new_player, old_player}
 use Rattle.state.specs.steps.Inside.{no_entry}
 use Rattle.state.specs.declared.Scalars.{Scalars}

@@ -20,15 +20,6 @@ pub struct Turned {
     pub wants: bool,
 }
 
-fn least(a: usize, b: usize) -> usize
-    ensures { result ≡ min a b }
-{
-    if a < b {
-        return a;
-    }
-    b
-}
-
 // Memory for the rows of 512 events, and for the numbers beside them.
 fn row_space() -> [i32; 4096]
     ensures { 4096 ≡ length result }
@@ -48,7 +39,7 @@ pub fn turn(reader: TeamReader, bytes: &[u8]) -> Turned
     ensures { TurnIs bytes.now (turn_on reader bytes.now) reader.teams result }
 {
     let short = bytes.len() < FULL;
-    let end = least(bytes.len(), FULL);
+    let end = bytes.len().min(FULL);
     let mut rows = row_space();
     let mut tens = ten_space();
     let many = many::read_many(reader, &bytes[..end], false, &mut rows, &mut tens);

@@ -54,12 +54,10 @@ fn loses_input<'a>(held: &'a [u8; 128], wanted: &'a [u8; 128]) -> bool
         → result ≡ loses_input (entries_with marks xs ys held.now inputs) (entries_with wmarks wxs wys wanted.now winputs) }
 {
     let mut all = true;
-    let mut c: usize = 0;
-    while c < 128 {
+    for c in 0..128 {
         let now = held[c] == 1;
         let then = wanted[c] == 1;
         all = good::both(if_marked(now, then), all);
-        c += 1;
     }
     !all
 }
@@ -76,10 +74,8 @@ fn loses_team<'a>(teams: &'a [i32; 256], wanted: &'a [i32; 256]) -> bool
     ensures { result ≡ loses_team teams.now wanted.now }
 {
     let mut all = true;
-    let mut c: usize = 0;
-    while c < 128 {
+    for c in 0..128 {
         all = good::both(if_marked(has_team(teams, c), has_team(wanted, c)), all);
-        c += 1;
     }
     !all
 }
@@ -89,10 +85,8 @@ fn any_team(teams: &[i32; 256]) -> bool
     ensures { result ≡ any_team teams.now }
 {
     let mut none = true;
-    let mut c: usize = 0;
-    while c < 128 {
+    for c in 0..128 {
         none = good::both(!has_team(teams, c), none);
-        c += 1;
     }
     !none
 }
@@ -131,14 +125,12 @@ fn differs_behind<'a>(
         (entries_with wmarks.now wxs.now wys.now wheld winputs) }
 {
     let mut all = true;
-    let mut c: usize = 0;
-    while c < 128 {
+    for c in 0..128 {
         let same = choosing::same_player(
             player_at(marks, xs, ys, c),
             player_at(wmarks, wxs, wys, c),
         );
         all = good::both(if_marked(at_or_below(c as i32, remembered), same), all);
-        c += 1;
     }
     !all
 }
@@ -186,10 +178,7 @@ fn cant_reach<'a>(
 fn is_pending(pending: Option<Kind>) -> bool
     ensures { result ≡ is_pending pending }
 {
-    match pending {
-        Some(_) => true,
-        None => false,
-    }
+    matches!(pending, Some(_))
 }
 
 // Whether the reader is not refused 17.

@@ -104,6 +104,8 @@ fn team_choice<'a>(teams: &'a [i32; 256], wteams: &'a [i32; 256], c: usize) -> O
 }
 
 // The player records, the lowest client first.
+// This loop and the two below stay three: one over a closure would take what a client's choice is, how long it is and that it can be written as
+// ghost values and demands, which is longer than the loop.
 fn put_players<'a>(
     version: Version,
     marks: &'a [u8; 128],
@@ -123,11 +125,9 @@ fn put_players<'a>(
         result out.new }
 {
     let mut next = at;
-    let mut c: usize = 0;
-    while c < 128 {
+    for c in 0..128 {
         let choice = player_choice(marks, xs, ys, wmarks, wxs, wys, c);
         next = put(version, choice, out, next);
-        c += 1;
     }
     next
 }
@@ -150,11 +150,9 @@ fn put_inputs<'a>(
         result out.new }
 {
     let mut next = at;
-    let mut c: usize = 0;
-    while c < 128 {
+    for c in 0..128 {
         let choice = input_choice(held, inputs, wheld, winputs, c);
         next = put(version, choice, out, next);
-        c += 1;
     }
     next
 }
@@ -171,11 +169,9 @@ fn put_teams<'a>(
     ensures { PutsBytes out.old at (bytes_of (joined 128 (team_for teams.now wteams.now))) result out.new }
 {
     let mut next = at;
-    let mut c: usize = 0;
-    while c < 128 {
+    for c in 0..128 {
         let choice = team_choice(teams, wteams, c);
         next = put(version, choice, out, next);
-        c += 1;
     }
     next
 }

@@ -29,7 +29,8 @@ use Rattle.kinds.specs.declared.Kind.TheVariants as kinds
 use Rattle.item.specs.declared.Tag.TheVariants.{Plain}
 use Rattle.views.proofs.Refusals.{same_refusal}
 use Rattle.causes.proofs.Theorems.{kinds_refused, rests_refused}
-use Rattle.state.specs.State.{Memory, reader_with, good_scalars}
+use Rattle.state.specs.State.{reader_with, good_scalars}
+use Rattle.state.specs.declared.Memory.{Memory}
 use Rattle.state.specs.Reading.{Event, Step, next_tick, next_kind}
 use Rattle.state.specs.Acts.{HadKind, Had, first_of, MayRead, WhyPlain, WhyPlayer, WhyInput, Act}
 use Rattle.state.specs.Acts as act

@@ -9,7 +9,8 @@ use Rattle.refusal.specs.declared.Refusal.TheVariants as refusal
 use Rattle.fields.specs.declared.Args.{Args}
 use Rattle.item.specs.Said.{Said, gives, more, finish, refuses, refusing}
 use Rattle.views.proofs.Refusals.{same_refusal}
-use Rattle.state.specs.State.{Memory, good_scalars, good_entries, good_reader}
+use Rattle.state.specs.State.{good_scalars, good_entries, good_reader}
+use Rattle.state.specs.declared.Memory.{Memory}
 use Rattle.state.specs.Reading.{Event, Step, step_of, is_closed, good_call, read_call, reader_after}
 use Rattle.state.specs.steps.Parts.{memory_of}
 use Rattle.state.specs.Acts.{BytesRunOut, Act, ReadAct}

@@ -37,15 +37,7 @@ pub enum Left {
 fn is_inside(s: &[u8], p: Part) -> bool
     ensures { result ≡ inside s.now p }
 {
-    let at = p.at;
-    let len = p.len;
-    if s.len() < at {
-        return false;
-    }
-    if s.len() - at < len {
-        return false;
-    }
-    true
+    p.at <= s.len() && p.len <= s.len() - p.at
 }
 
 // The room that is left after n bytes, if they can be written.
@@ -56,14 +48,9 @@ fn left_after(left: Left, ok: bool, n: usize) -> Left
         return Left::Unwritable;
     }
     match left {
-        Left::Room(room) => {
-            if n <= room {
-                return Left::Room(room - n);
-            }
-            Left::Short
-        }
-        Left::Short => Left::Short,
-        Left::Unwritable => Left::Unwritable,
+        Left::Room(room) if n <= room => Left::Room(room - n),
+        Left::Room(_) => Left::Short,
+        _ => left,
     }
 }
 
@@ -108,12 +95,8 @@ fn measure(room: Left, o: Outline, s: &[u8], ten: [i32; 10], args: Args) -> Left
     ensures { result ≡ left_after room (pieces_ok s.now (pieces_of o ten args)) (length (pieces_bytes s.now (pieces_of o ten args))) }
 {
     let mut left = room;
-    let mut i = 0;
-    let tail = o.tail;
-    let end = pieces::past_pieces(tail);
-    while i < end {
+    for i in 0..pieces::past_pieces(o.tail) {
         left = left_piece(left, s, pieces::piece_at(o, ten, args, i));
-        i += 1;
     }
     left
 }
@@ -182,10 +165,8 @@ fn put_id(which: Extension, out: &mut [u8], at: usize) -> usize
     requires { HasRoom out.old at (id_at which) }
     ensures { PutsBytes out.old at (id_at which) result out.new }
 {
-    let mut i = 0;
-    while i < 16 {
+    for i in 0..16 {
         out[at + i] = ids::id_byte(which, i);
-        i += 1;
     }
     at + 16
 }
@@ -212,16 +193,12 @@ fn put_pieces(o: Outline, s: &[u8], ten: [i32; 10], args: Args, out: &mut [u8], 
     requires { Ready (pieces_ok s.now (pieces_of o ten args)) out.old at (pieces_bytes s.now (pieces_of o ten args)) }
     ensures { PutsBytes out.old at (pieces_bytes s.now (pieces_of o ten args)) result out.new }
 {
-    let tail = o.tail;
-    let end = pieces::past_pieces(tail);
     let mut next = at;
-    let mut i = 0;
-    while i < end {
+    for i in 0..pieces::past_pieces(o.tail) {
         next = past(
             write_piece(s, pieces::piece_at(o, ten, args, i), out, next),
             next,
         );
-        i += 1;
     }
     next
 }

@@ -78,14 +78,10 @@ fn place_after(p: usize) -> usize
 pub fn one_more(counts: Counts) -> Counts
     ensures { result ≡ one_more counts }
 {
-    let next = place_after(counts.next);
-    if counts.count < 512 {
-        return Counts {
-            next,
-            count: counts.count + 1,
-        };
+    Counts {
+        next: place_after(counts.next),
+        count: counts.count.min(511) + 1,
     }
-    Counts { next, count: 512 }
 }
 
 fn input_row(cid: i32, had: i32) -> Undo

@@ -10,7 +10,8 @@ use lib.Dec.{ltb, leb}
 use lib.IntN.{ℤ}
 use borrow.Author.Tests.{lt-ltb, le-leb, ltb-true}
 use Rattle.item.specs.Said.{Said, gives, more, finish, refuses}
-use Rattle.state.specs.State.{Memory, good_reader}
+use Rattle.state.specs.State.{good_reader}
+use Rattle.state.specs.declared.Memory.{Memory}
 use Rattle.state.specs.Reading.{Event, Step, is_closed, good_call, read_call}
 use Rattle.state.specs.Acts.{Act}
 use Rattle.state.specs.Acts as act

@@ -2,7 +2,7 @@
 #![tactic(auto)]
 
 ghost use Rattle.std.specs.Prelude.{◌≡◌, true};
-ghost use Rattle.state.specs.State.{entries_with, reader_with, good_reader};
+ghost use Rattle.state.specs.State.{reader_with, good_reader};
 ghost use Rattle.state.specs.Laws.{Sound};
 ghost use Rattle.calls.specs.Along.{calls};
 ghost use Rattle.reel.specs.Reel.{good_counts, reel_of};
@@ -13,7 +13,7 @@ use keeping::keep_lent;
 use many::Stop;
 use reel::Counts;
 use refusal::Refusal;
-use state::{Answer, Entries, Reader, Scalars};
+use state::{Answer, Entries, Memory, Reader, Scalars};
 use teams::TeamReader;
 
 // Why the calls stopped, how many events there are, the bytes used in all, the reader and the reel's counts left.
@@ -26,7 +26,7 @@ pub struct ReelRead {
     pub counts: Counts,
 }
 
-// The same where entries and teams are lent.
+// The same where memory and teams are lent.
 #[derive(Clone, Copy)]
 struct CallsKept {
     stop: Stop,
@@ -48,18 +48,12 @@ fn stopped(stop: Stop, count: usize, used: usize, scalars: Scalars, counts: Coun
     }
 }
 
-// Calls on lent entries and teams while fewer events came than wanted and they give events, each of which the reel keeps. What input and
+// Calls on lent memory and teams while fewer events came than wanted and they give events, each of which the reel keeps. What input and
 // former hold before is never seen.
 fn keep_calls(
     scalars: Scalars,
-    marks: &mut [u8; 128],
-    xs: &mut [i32; 128],
-    ys: &mut [i32; 128],
-    held: &mut [u8; 128],
-    inputs: &mut [i32; 1280],
+    m: &mut Memory,
     teams: &mut [i32; 256],
-    input: &mut [i32; 10],
-    former: &mut [i32; 10],
     w: &[u8],
     last: bool,
     most: usize,
@@ -68,10 +62,10 @@ fn keep_calls(
     tens: &mut [i32; 5120],
     formers: &mut [i32; 5120],
 ) -> CallsKept
-    requires { Sound (reader_with scalars (entries_with marks.old xs.old ys.old held.old inputs.old)) × (good_counts reel ≡ true) }
-    ensures { KeptIs (calls most (reader_with scalars (entries_with marks.old xs.old ys.old held.old inputs.old)) w.now last) teams.old
+    requires { Sound (reader_with scalars m.old.entries) × (good_counts reel ≡ true) }
+    ensures { KeptIs (calls most (reader_with scalars m.old.entries) w.now last) teams.old
         (reel_of reel rows.old tens.old formers.old)
-        (answer_of result (entries_with marks.new xs.new ys.new held.new inputs.new) teams.new)
+        (answer_of result m.new.entries teams.new)
         (reel_of result.counts rows.new tens.new formers.new) }
 {
     let mut s = scalars;
@@ -79,25 +73,16 @@ fn keep_calls(
     let mut count: usize = 0;
     let mut used: usize = 0;
     while count < most {
-        let o = step::good_call(
-            s,
-            marks,
-            xs,
-            ys,
-            held,
-            inputs,
-            input,
-            former,
-            &w[used..],
-            last,
-        );
+        let o = step::good_call(s, m, &w[used..], last);
         let next = o.scalars;
         let answer = o.answer;
         s = next;
         match answer {
             Answer::Event { event, used: n } => {
                 let team = teams::apply(teams, event);
-                let kept = keep_lent(counts, event, team, input, former, rows, tens, formers);
+                let kept = keep_lent(
+                    counts, event, team, &m.input, &m.former, rows, tens, formers,
+                );
                 let left = kept.counts;
                 counts = left;
                 used += n;
@@ -129,40 +114,12 @@ fn keep_good(
         (reel_of counts rows.old tens.old formers.old) result
         (reel_of result.counts rows.new tens.new formers.new) }
 {
-    let mut marks = entries.marks;
-    let mut xs = entries.xs;
-    let mut ys = entries.ys;
-    let mut held = entries.held;
-    let mut inputs = entries.inputs;
+    let mut m = Memory::of(entries);
     let mut teams = given;
-    let mut input = [0i32; 10];
-    let mut former = [0i32; 10];
     let r = keep_calls(
-        scalars,
-        &mut marks,
-        &mut xs,
-        &mut ys,
-        &mut held,
-        &mut inputs,
-        &mut teams,
-        &mut input,
-        &mut former,
-        window,
-        last,
-        most,
-        counts,
-        rows,
-        tens,
-        formers,
+        scalars, &mut m, &mut teams, window, last, most, counts, rows, tens, formers,
     );
-    let left = Entries {
-        marks,
-        xs,
-        ys,
-        held,
-        inputs,
-    };
-    answer_of(r, left, teams)
+    answer_of(r, m.entries, teams)
 }
 
 fn answer_of(r: CallsKept, entries: Entries, teams: [i32; 256]) -> ReelRead

@@ -48,30 +48,18 @@ fn put_ending(short: bool, stop: Stop, count: usize, out: &mut [u8], at: usize) 
     }
 }
 
-fn least(a: usize, b: usize) -> usize
-    ensures { result ≡ min a b }
-{
-    if a < b {
-        return a;
-    }
-    b
-}
-
 // For how many lines there is room, besides a last one.
 fn line_room(out: usize) -> usize
     ensures { result ≡ (out - longest) / longest }
 {
-    if out < LONGEST {
-        return 0;
-    }
-    (out - LONGEST) / LONGEST
+    out.saturating_sub(LONGEST) / LONGEST
 }
 
 // For how many events there is room.
 fn event_room(rows: usize, tens: usize, out: usize) -> usize
     ensures { result ≡ min (min (rows / 8) (tens / 20)) ((out - longest) / longest) }
 {
-    least(least(rows / 8, tens / 20), line_room(out))
+    (rows / 8).min(tens / 20).min(line_room(out))
 }
 
 // Where there is no room for an event.
@@ -103,7 +91,7 @@ pub fn turn(
     if n == 0 {
         return no_turn(reader);
     }
-    let end = least(bytes.len(), FULL);
+    let end = bytes.len().min(FULL);
     let short = bytes.len() < FULL;
     let row_end = 8 * n;
     let ten_end = 20 * n;

@@ -28,7 +28,7 @@ use Rattle.item.specs.Own.{own_content}
 use Rattle.records.specs.declared.ItemRead.{ItemRead}
 use Rattle.state.specs.Sorts.{Sort, tag_sort}
 use Rattle.state.specs.Sorts as sorts
-use Rattle.state.specs.State.{Memory}
+use Rattle.state.specs.declared.Memory.{Memory}
 use Rattle.state.specs.Reading.{Step, step_of, other, raising, refusal_step, out_of, apply_sort, apply}
 use Rattle.state.specs.Slim.{slim_step}
 use Rattle.state.specs.steps.Parts.{other_record, with_rest}

@@ -29,7 +29,7 @@ use Rattle.kinds.specs.declared.Kind.TheVariants as kinds
 use Rattle.item.specs.declared.Tag.TheVariants.{Plain}
 use Rattle.kinds.specs.steps.Kinds.{input_kind}
 use Rattle.records.proofs.Inputs.{Numbers, all_numbers}
-use Rattle.state.specs.State.{Memory}
+use Rattle.state.specs.declared.Memory.{Memory}
 use Rattle.state.specs.Reading.{Step, step_of, refusal_step, out_of, closing, naming, raising, player_diff, new_player, old_player, input_diff, input_new, tick_skip, first, apply}
 use Rattle.state.specs.Slim.{slim_step}
 use Rattle.state.specs.steps.Parts.{with_rest}

@@ -12,7 +12,8 @@ use Rattle.packer.specs.declared.Part.{Part}
 use Rattle.item.specs.Records.{Content}
 use Rattle.item.specs.Own.{own_content}
 use Rattle.item.specs.Said.{Said, gives, more, finish, refuses}
-use Rattle.state.specs.State.{Memory, present, holds}
+use Rattle.state.specs.State.{present, holds}
+use Rattle.state.specs.declared.Memory.{Memory}
 use Rattle.state.specs.Reading.{Event, tick_start, tick_end, player_new, player_change, player_old, input, other, Step, step_of, refusal_step, out_of, next_tick, player_diff, new_player, old_player, input_diff, input_new, tick_skip}
 use Rattle.state.specs.Slim.{slim, slim_said, slim_step}
 use Rattle.state.specs.steps.Parts.{skipped}

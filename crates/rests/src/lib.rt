@@ -1,16 +1,15 @@
-// The rest of a record of a kind, read from a window, and what it changes in the scalars and the entries that are lent.
+// The rest of a record of a kind, read from a window, and what it changes in the scalars and the memory that is lent.
 #![tactic(auto)]
 
 ghost use Rattle.std.specs.Prelude.{◌≡◌, true};
 ghost use Rattle.item.specs.Records.{read_rest};
 ghost use Rattle.item.specs.Said.{finish};
 ghost use Rattle.kinds.specs.steps.Kinds.{input_kind};
-ghost use Rattle.state.specs.State.{Memory};
 ghost use Rattle.state.specs.Reading.{step_of, closing};
 ghost use Rattle.state.specs.declared.Standing.TheVariants.{Finished};
 ghost use Rattle.state.specs.Slim.{slim_step};
 ghost use Rattle.state.specs.steps.Parts.{with_rest};
-ghost use Rattle.state.specs.steps.Inside.{OnPlayers, OnInputs, memory, done};
+ghost use Rattle.state.specs.steps.Inside.{done};
 ghost use Rattle.rests.specs.steps.Kinds.{pair_kind, is_other, input_of};
 ghost use Rattle.state.specs.Sorts.{sort_of};
 
@@ -19,22 +18,20 @@ use kinds::Kind;
 use records::ItemRead;
 use refusal::Refusal;
 use shapes::PairRead;
-use state::{Answer, Event, Outcome, Scalars, Standing};
+use state::{Answer, Event, Memory, Outcome, Scalars, Standing};
 use varint::IntRead;
 
 // PlayerNew or PlayerDiff of a client.
 fn with_pair(
     s: Scalars,
-    marks: &mut [u8; 128],
-    xs: &mut [i32; 128],
-    ys: &mut [i32; 128],
+    m: &mut Memory,
     new: bool,
     cid: i32,
     w: &[u8],
     at: usize,
     last: bool,
 ) -> Outcome
-    ensures { OnPlayers (λ (m : Memory). slim_step (with_rest s m last (read_rest (pair_kind new cid) w.now at))) result marks.old xs.old ys.old marks.new xs.new ys.new }
+    ensures { done result m.new ≡ slim_step (with_rest s m.old last (read_rest (pair_kind new cid) w.now at)) }
 {
     let PairRead::Got {
         first,
@@ -46,9 +43,9 @@ fn with_pair(
     };
     let t = ticks::named(s, cid);
     if new {
-        return players::player_new(t, marks, xs, ys, cid, first, second, next);
+        return players::player_new(t, m, cid, first, second, next);
     }
-    players::player_diff(t, marks, xs, ys, cid, first, second, next)
+    players::player_diff(t, m, cid, first, second, next)
 }
 
 fn with_skip(s: Scalars, w: &[u8], at: usize, last: bool) -> Outcome
@@ -69,18 +66,8 @@ fn with_skip(s: Scalars, w: &[u8], at: usize, last: bool) -> Outcome
 }
 
 // InputNew or InputDiff.
-fn with_input(
-    s: Scalars,
-    held: &mut [u8; 128],
-    inputs: &mut [i32; 1280],
-    input: &mut [i32; 10],
-    former: &mut [i32; 10],
-    new: bool,
-    w: &[u8],
-    at: usize,
-    last: bool,
-) -> Outcome
-    ensures { OnInputs (λ (m : Memory). slim_step (with_rest s m last (read_rest (input_kind new) w.now at))) result held.old inputs.old input.old former.old held.new inputs.new input.new former.new }
+fn with_input(s: Scalars, m: &mut Memory, new: bool, w: &[u8], at: usize, last: bool) -> Outcome
+    ensures { done result m.new ≡ slim_step (with_rest s m.old last (read_rest (input_kind new) w.now at)) }
 {
     let read = fields::read_input(w, at);
     let answer = read.answer;
@@ -90,9 +77,9 @@ fn with_input(
     };
     let t = ticks::raised(s, Some(cid));
     if new {
-        return inputs::input_new(t, held, inputs, input, former, cid, numbers, next);
+        return inputs::input_new(t, m, cid, numbers, next);
     }
-    inputs::input_diff(t, held, inputs, input, former, cid, numbers, next)
+    inputs::input_diff(t, m, cid, numbers, next)
 }
 
 // A record that changes no entry.
@@ -145,28 +132,21 @@ fn input_of(kind: Kind) -> Option<bool>
 // inlined: called from several places, it would make the scalars and the event of every record pass through memory.
 pub fn with_record(
     s: Scalars,
-    marks: &mut [u8; 128],
-    xs: &mut [i32; 128],
-    ys: &mut [i32; 128],
-    held: &mut [u8; 128],
-    inputs: &mut [i32; 1280],
-    input: &mut [i32; 10],
-    former: &mut [i32; 10],
+    m: &mut Memory,
     kind: Kind,
     w: &[u8],
     at: usize,
     last: bool,
 ) -> Outcome
-    ensures { done result (memory marks.new xs.new ys.new held.new inputs.new input.new former.new)
-        ≡ slim_step (with_rest s (memory marks.old xs.old ys.old held.old inputs.old input.old former.old) last (read_rest kind w.now at)) }
+    ensures { done result m.new ≡ slim_step (with_rest s m.old last (read_rest kind w.now at)) }
 {
     match kind {
-        Kind::PlayerDiff(cid) => return with_pair(s, marks, xs, ys, false, cid, w, at, last),
+        Kind::PlayerDiff(cid) => return with_pair(s, m, false, cid, w, at, last),
         Kind::Finish => return finished(s, at),
         Kind::TickSkip => return with_skip(s, w, at, last),
-        Kind::PlayerNew(cid) => return with_pair(s, marks, xs, ys, true, cid, w, at, last),
+        Kind::PlayerNew(cid) => return with_pair(s, m, true, cid, w, at, last),
         Kind::PlayerOld(cid) => {
-            return players::player_old(ticks::named(s, cid), marks, xs, ys, cid, at);
+            return players::player_old(ticks::named(s, cid), m, cid, at);
         }
         Kind::InputDiff => {}
         Kind::InputNew => {}
@@ -179,5 +159,5 @@ pub fn with_record(
     let Some(new) = input_of(kind) else {
         return with_other(s, kind, w, at, last);
     };
-    with_input(s, held, inputs, input, former, new, w, at, last)
+    with_input(s, m, new, w, at, last)
 }

@@ -62,11 +62,9 @@ fn put_rows(
     requires { (count ≤ 128) × (at + 40 * count ≤ length out.old) }
     ensures { PutsText out.old at (row_lines (rows_in count clients.now times.now ticks.now)) result out.new }
 {
-    let mut i = 0;
     let mut next = at;
-    while i < count {
+    for i in 0..count {
         next = put_row(clients[i], times[i], ticks[i], out, next);
-        i += 1;
     }
     next
 }
@@ -94,10 +92,7 @@ fn put_text(
 fn has_longest(len: usize, at: usize) -> bool
     ensures { result ≡ leb (at + longest_list) len }
 {
-    if len < at {
-        return false;
-    }
-    5286 <= len - at
+    at <= len && 5286 <= len - at
 }
 
 // The text of a list: its rows in order, the number of others' finishes, the last line. Refused 9, with nothing changed, where the longest

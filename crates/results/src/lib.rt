@@ -45,28 +45,7 @@ struct PlayerFinish {
 fn is_player_finish(which: Extension) -> bool
     ensures { result ≡ is_player_finish which }
 {
-    match which {
-        Extension::Antibot => false,
-        Extension::AuthInit => false,
-        Extension::AuthLogin => false,
-        Extension::AuthLogout => false,
-        Extension::Ddnetver => false,
-        Extension::DdnetverOld => false,
-        Extension::Joinver6 => false,
-        Extension::Joinver7 => false,
-        Extension::PlayerFinish => true,
-        Extension::PlayerName => false,
-        Extension::PlayerReady => false,
-        Extension::PlayerRejoin => false,
-        Extension::PlayerSwap => false,
-        Extension::PlayerTeam => false,
-        Extension::TeamFinish => false,
-        Extension::TeamLoadFailure => false,
-        Extension::TeamLoadSuccess => false,
-        Extension::TeamPractice => false,
-        Extension::TeamSaveFailure => false,
-        Extension::TeamSaveSuccess => false,
-    }
+    matches!(which, Extension::PlayerFinish)
 }
 
 // The finish that a record is, whatever tick is open.
@@ -116,12 +95,7 @@ fn keep_row(
     requires { c < 128 }
     ensures { KeepsRow c time tick marks.old times.old ticks.old marks.new times.new ticks.new }
 {
-    if marks[c] == 1 {
-        if times[c] <= time {
-            return;
-        }
-        times[c] = time;
-        ticks[c] = tick;
+    if marks[c] == 1 && times[c] <= time {
         return;
     }
     marks[c] = 1;

@@ -5,7 +5,8 @@ use mathlib.Core.List.{List, [], ◌∷◌, ◌++◌, append_assoc, append-nil}
 use Prim.Native.Nat.{ℕ}
 use Rattle.item.specs.Said.{Said, gives, more, finish, refuses}
 use Rattle.kinds.specs.declared.Version.{Version}
-use Rattle.state.specs.State.{Memory, with_entries, empty_reader}
+use Rattle.state.specs.State.{with_entries, empty_reader}
+use Rattle.state.specs.declared.Memory.{Memory}
 use Rattle.state.specs.Reading.{Event, Step, is_closed, reader_after}
 use Rattle.state.specs.Laws.{SaidLeaves}
 use Rattle.state.specs.Acts.{ReadAct}

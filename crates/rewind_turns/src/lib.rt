@@ -1,7 +1,7 @@
 // The rewind program's reading: calls on the bytes at hand, with a reel beside.
 #![tactic(auto)]
 
-ghost use Rattle.std.specs.Prelude.{◌≡◌, min, ◌||◌};
+ghost use Rattle.std.specs.Prelude.{◌≡◌, ◌||◌};
 ghost use Rattle.many.specs.Many.{halt_of};
 ghost use Rattle.windows.specs.Windows.{ends};
 ghost use Rattle.reel.specs.Reel.{reel_of};
@@ -28,21 +28,7 @@ pub struct ReelTurn {
 fn is_over(short: bool, stop: Stop, count: usize) -> bool
     ensures { result ≡ (has_all (halt_of stop) || ends short (halt_of stop) count) }
 {
-    match stop {
-        Stop::Full => true,
-        Stop::More => windows::has_ending(short, stop, count),
-        Stop::Finish => true,
-        Stop::Refused(_) => true,
-    }
-}
-
-fn least(a: usize, b: usize) -> usize
-    ensures { result ≡ min a b }
-{
-    if a < b {
-        return a;
-    }
-    b
+    matches!(stop, Stop::Full) || windows::has_ending(short, stop, count)
 }
 
 // Reading calls on the window at the front of the bytes until so many events came, each of which the reel keeps. The bytes are those at hand
@@ -62,7 +48,7 @@ pub fn turn(
         (reel_of result.counts rows.new inputs.new formers.new) }
 {
     let short = bytes.len() < FULL;
-    let end = least(bytes.len(), FULL);
+    let end = bytes.len().min(FULL);
     let read = reeling::read_kept(
         reader,
         &bytes[..end],

@@ -44,14 +44,12 @@ fn find_start(counts: Counts, rows: &[i32; 5120], tick: i32) -> Option<usize>
     requires { (counts.next < 512) × (counts.count ≤ 512) }
     ensures { (inputs formers : List ℤ) → found_is result ≡ newer_than tick (rows_of (reel_of counts rows.now inputs formers)) }
 {
-    let mut n: usize = 0;
     let mut place = counts.next;
-    while n < counts.count {
+    for n in 0..counts.count {
         place = reel::place_before(place);
         if is_start(rows, place, tick) {
             return Some(n);
         }
-        n += 1;
     }
     None
 }
@@ -70,20 +68,13 @@ fn is_start(rows: &[i32; 5120], p: usize, tick: i32) -> bool
 pub fn start_at(rows: &[i32; 5120], p: usize, tick: i32) -> bool
     ensures { result ≡ (ltb p 512 && is_start tick (undo_in (ten_of rows.now p))) }
 {
-    if 512 <= p {
-        return false;
-    }
-    is_start(rows, p, tick)
+    p < 512 && is_start(rows, p, tick)
 }
 
 fn closed_by_refusal(standing: Standing) -> bool
     ensures { result ≡ closed_by_refusal standing }
 {
-    match standing {
-        Standing::Open => false,
-        Standing::Finished => false,
-        Standing::Refused => true,
-    }
+    matches!(standing, Standing::Refused)
 }
 
 // The newest TickStart of a tick on a reel beside a reader: how many rows are newer. Refused 17 (reader, reel), 18 (a reader closed by a
@@ -144,8 +135,7 @@ fn walk_over(
 {
     let mut t = tick;
     let mut p = next;
-    let mut k: usize = 0;
-    while k < n {
+    for k in 0..n {
         let q = reel::place_before(p);
         let undo = reel::undo_in(keeping::ten_at(rows, q));
         let ten = keeping::ten_at(tens, q);
@@ -164,14 +154,13 @@ fn walk_over(
         }
         t = left;
         p = q;
-        k += 1;
     }
     Over {
         off: Off {
             fits: true,
             tick: t,
         },
-        over: k,
+        over: n,
         place: p,
     }
 }

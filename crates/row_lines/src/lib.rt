@@ -101,11 +101,9 @@ pub fn put_rows(rows: &[i32], tens: &[i32], count: usize, out: &mut [u8]) -> usi
     if tens.len() / 20 < count {
         return 0;
     }
-    let mut i = 0;
     let mut at = 0;
-    while i < count {
+    for i in 0..count {
         at = put_row(rows, tens, i, out, at);
-        i += 1;
     }
     at
 }

@@ -21,12 +21,6 @@ fn wrapped(n: usize) -> i32
     num::signed((n % 4294967296) as u32)
 }
 
-fn flag_of(b: bool) -> i32
-    ensures { result ≡ flag b }
-{
-    if b { 1 } else { 0 }
-}
-
 // Whether a kind is pending.
 pub fn pending_flag(s: Scalars) -> i32
     ensures { result ≡ flag (is_pending s.pending) }
@@ -42,9 +36,7 @@ pub fn pending_flag(s: Scalars) -> i32
 pub fn room_for(rows: usize, tens: usize) -> usize
     ensures { result ≡ min (rows / 8) (tens / 20) }
 {
-    let a = rows / 8;
-    let b = tens / 20;
-    if a < b { a } else { b }
+    (rows / 8).min(tens / 20)
 }
 
 // Row i.
@@ -106,15 +98,14 @@ fn put_record(item: Item, team: Option<i32>, used: i32, pending: i32, rows: &mut
     }
 }
 
+// A loop: copy_from_slice compiles to twice as many instructions.
 fn put_ten(tens: &mut [i32], at: usize, ten: [i32; 10])
     requires { at + 10 ≤ length tens.old }
     ensures { tens.new ≡ put tens.old at ten }
 {
-    let mut k: usize = 0;
-    while k < 10 {
+    for k in 0..10 {
         let x = ten[k];
         tens[at + k] = x;
-        k += 1;
     }
 }
 
@@ -156,7 +147,7 @@ fn fill(
         } => put_row(rows, i, 4, n, cid, x, y, old_x, old_y),
         Event::PlayerOld { cid, x, y } => put_row(rows, i, 5, n, cid, x, y, 0, 0),
         Event::Input { cid, former: had } => {
-            put_row(rows, i, 6, n, cid, flag_of(had), 0, 0, 0);
+            put_row(rows, i, 6, n, cid, i32::from(had), 0, 0, 0);
             put_tens(tens, i, *input, *former);
         }
         Event::Record(item) => {

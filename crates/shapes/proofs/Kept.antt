@@ -27,7 +27,6 @@ use Rattle.shapes.specs.steps.Shapes.{fields_in, id_part, Shows, is_nothing, on_
 use Rattle.shapes.specs.declared.Shape.{Shape}
 use Rattle.shapes.specs.declared.Shape.TheVariants.{Nothing, Int, IntInt, IntStr, IntIntStr, IntUuidStr, IntUuidIntStr, IntData}
 use Rattle.shapes.specs.declared.FieldsRead.{FieldsRead}
-use Rattle.shapes.specs.declared.FieldsRead.TheVariants as code
 
 module _ (s : List ℕ) (at : ℕ) where
   -- a number: the code keeps its bits

@@ -152,16 +152,7 @@ fn read_second(first: i32, uuid: usize, string: bool, s: &[u8], at: usize) -> Fi
 fn is_nothing(shape: Shape) -> bool
     ensures { result ≡ is_nothing shape }
 {
-    match shape {
-        Shape::Nothing => true,
-        Shape::Int => false,
-        Shape::IntInt => false,
-        Shape::IntStr => false,
-        Shape::IntIntStr => false,
-        Shape::IntUuidStr => false,
-        Shape::IntUuidIntStr => false,
-        Shape::IntData => false,
-    }
+    matches!(shape, Shape::Nothing)
 }
 
 // What follows the first number.

@@ -3,7 +3,7 @@ use Prim.Native.Nat.{ℕ}
 use mathlib.Core.Path.{◌≡◌, refl, sym, ap, ◌∙◌}
 use mathlib.Core.Bool.{Bool, true, false, false≢true}
 use mathlib.Core.List.{List}
-use Rattle.state.specs.State.{Memory}
+use Rattle.state.specs.declared.Memory.{Memory}
 use Rattle.state.specs.Reading.{Step, is_closed, closing, raising, naming, starting, ending, skipping}
 use Rattle.state.specs.Laws.{ForgetsBetween, ReadersForgetBetween}
 use Rattle.state.specs.Acts.{Act, ReadAct}

@@ -26,7 +26,8 @@ use Rattle.kinds.specs.declared.Kind.{Kind}
 use Rattle.kinds.specs.declared.Kind.TheVariants as kinds
 use Rattle.state.specs.Sorts.{Change, Sort, sort_of}
 use Rattle.state.specs.Sorts as sorts
-use Rattle.state.specs.State.{Memory, with_entries, present, x_of, y_of, with_player, moved, holds, ten_of, with_input, good_reader}
+use Rattle.state.specs.State.{with_entries, present, x_of, y_of, with_player, moved, holds, ten_of, with_input, good_reader}
+use Rattle.state.specs.declared.Memory.{Memory}
 use Rattle.state.specs.Reading.{Event, tick_start, tick_end, player_new, player_change, player_old, input, other, Step, step_of, is_closed, closing, raising, naming, starting, ending, skipping, next_tick, sums, first, second, at_or_below, next_kind, open_call, read_call}
 use Rattle.state.specs.steps.Parts.{memory_of}
 use Rattle.state.specs.declared.Entries.{Entries}

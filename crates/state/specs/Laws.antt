@@ -3,7 +3,8 @@
 use Rattle.std.specs.Prelude.{ℕ, ◌≤◌, ◌<◌, ◌≡◌, Bool, true, false, List, length, ℤ, pos, None}
 use Rattle.item.specs.Said.{Said, gives, more, finish, refuses}
 use Rattle.kinds.specs.declared.Version.{Version}
-use Rattle.state.specs.State.{Memory, with_entries, with_player, good_entries, good_scalars, good_reader, empty_reader}
+use Rattle.state.specs.State.{with_entries, with_player, good_entries, good_scalars, good_reader, empty_reader}
+use Rattle.state.specs.declared.Memory.{Memory}
 use Rattle.state.specs.Reading.{
   Event,
   tick_start,

@@ -28,7 +28,6 @@ use Rattle.state.specs.Sorts.{Sort, sort_of, tag_sort}
 use Rattle.state.specs.Sorts as sorts
 use Rattle.state.specs.State.{
   larger,
-  Memory,
   with_entries,
   present,
   x_of,
@@ -43,6 +42,7 @@ use Rattle.state.specs.State.{
   good_reader,
   scalars_of,
 }
+use Rattle.state.specs.declared.Memory.{Memory}
 use Rattle.state.specs.declared.Standing.{Standing}
 use Rattle.state.specs.declared.Standing.TheVariants.{Open, Finished, Refused}
 use Rattle.state.specs.declared.Scalars.{Scalars}

@@ -8,6 +8,7 @@ use Rattle.kinds.specs.declared.Version.{Version}
 use Rattle.state.specs.Sorts.{Sort, sort_of}
 use Rattle.state.specs.Sorts as sorts
 use Rattle.state.specs.declared.Entries.{Entries}
+use Rattle.state.specs.declared.Memory.{Memory}
 use Rattle.state.specs.declared.Standing.{Standing}
 use Rattle.state.specs.declared.Standing.TheVariants.{Open}
 use Rattle.state.specs.declared.Scalars.{Scalars}
@@ -26,12 +27,6 @@ abbrev pub larger : ℤ → ℤ → ℤ
 larger a b = cond (lt_z a b) b a
 
 -- ---- entries: marks are 0 or 1; those of clients 0 to 127, ten input numbers each
-
--- all that a reading call works on beside the scalars: the entries; the ten numbers of an Input event, and the former ten
-pub record Memory : Type 0 where
-  pub entries : Entries
-  pub input : List ℤ
-  pub former : List ℤ
 
 abbrev pub entries_with : List ℕ → List ℤ → List ℤ → List ℕ → List ℤ → Entries
 entries_with marks xs ys held inputs = record { marks = marks; xs = xs; ys = ys; held = held; inputs = inputs }

@@ -4,6 +4,7 @@
 ghost use Rattle.std.specs.Prelude.{◌≡◌};
 ghost use Rattle.state.specs.State.{empty_reader};
 ghost use Rattle.state.specs.Reading.{is_closed};
+ghost use Rattle.state.specs.steps.Parts.{memory_of};
 
 use item::Item;
 use kinds::{Kind, Version};
@@ -17,6 +18,27 @@ pub struct Entries {
     pub ys: [i32; 128],
     pub held: [u8; 128],
     pub inputs: [i32; 1280],
+}
+
+// All that a reading call works on beside the scalars: the entries; the ten numbers of an Input event, and the former ten.
+#[derive(Clone, Copy)]
+pub struct Memory {
+    pub entries: Entries,
+    pub input: [i32; 10],
+    pub former: [i32; 10],
+}
+
+impl Memory {
+    // Entries, with zeros for the numbers of an input.
+    pub fn of(entries: Entries) -> Memory
+        ensures { result ≡ memory_of entries }
+    {
+        Memory {
+            entries,
+            input: [0; 10],
+            former: [0; 10],
+        }
+    }
 }
 
 // Whether a reader reads on: it is open, or finish or a refusal has closed it.
@@ -119,7 +141,7 @@ pub enum Answer {
     Refused(Refusal),
 }
 
-// What a call on lent entries answers, and the scalars that it leaves.
+// What a call on lent memory answers, and the scalars that it leaves.
 #[derive(Clone, Copy)]
 pub struct Outcome {
     pub answer: Answer,

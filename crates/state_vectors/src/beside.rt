@@ -1,6 +1,6 @@
 // A call by value, held to the others on the same reader and window.
 use crate::{left, say};
-use state::{Answer, Entries, Reader, Scalars};
+use state::{Answer, Entries, Memory, Reader, Scalars};
 use team_reading::{TeamOutcome, TeamRead};
 use teams::TeamReader;
 
@@ -44,40 +44,14 @@ fn same_read(lent: TeamOutcome, entries: Entries, teams: [i32; 256], got: TeamRe
         & same_team(one, other)
 }
 
-// Whether the call on lent entries and teams answers and leaves the same.
+// Whether the call on lent memory and teams answers and leaves the same.
 fn same_lent(reader: TeamReader, window: &[u8], last: bool, got: TeamRead) -> bool {
     let mut teams = reader.teams;
     let plain = reader.reader;
     let scalars = plain.scalars;
-    let given = plain.entries;
-    let mut marks = given.marks;
-    let mut xs = given.xs;
-    let mut ys = given.ys;
-    let mut held = given.held;
-    let mut inputs = given.inputs;
-    let mut input = [0i32; 10];
-    let mut former = [0i32; 10];
-    let lent = team_reading::read_lent(
-        scalars,
-        &mut marks,
-        &mut xs,
-        &mut ys,
-        &mut held,
-        &mut inputs,
-        &mut teams,
-        &mut input,
-        &mut former,
-        window,
-        last,
-    );
-    let entries = Entries {
-        marks,
-        xs,
-        ys,
-        held,
-        inputs,
-    };
-    same_read(lent, entries, teams, got)
+    let mut m = Memory::of(plain.entries);
+    let lent = team_reading::read_lent(scalars, &mut m, &mut teams, window, last);
+    same_read(lent, m.entries, teams, got)
 }
 
 pub fn hold_lent(reader: TeamReader, window: &[u8], last: bool, got: TeamRead) {

@@ -6,7 +6,7 @@
 //   2: a version, the length of a body, that body and another: each is read to its end, and both are to leave the same reader
 //   3: a client, 100 more than it is; a reader without teams, which remembers it; a window, the last, for one call
 //   4: a reader with its three bytes of teams; a client, 100 more than it is; a body, read to its end: the client's team then
-// Of each PlayerTeam read in 1, 2 and 4 its client, its team and the former one are printed. A call by value is held to the one on lent entries
+// Of each PlayerTeam read in 1, 2 and 4 its client, its team and the former one are printed. A call by value is held to the one on lent memory
 // and teams and, where the teams are good, to the one without teams; where they differ a line says so.
 #![tactic(auto)]
 

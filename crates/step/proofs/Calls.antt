@@ -8,7 +8,7 @@ use Rattle.kinds.specs.steps.Kinds.{kind_is}
 use Rattle.kinds.specs.declared.Kind.{Kind}
 use Rattle.kinds.specs.declared.KindRead.{KindRead}
 use Rattle.kinds.specs.declared.KindRead.TheVariants as reads
-use Rattle.state.specs.State.{Memory}
+use Rattle.state.specs.declared.Memory.{Memory}
 use Rattle.state.specs.Reading.{refusal_step, out_of, tick_rule, with_rule, next_kind, open_call}
 use Rattle.state.specs.Slim.{slim_step}
 use Rattle.state.specs.steps.Parts.{with_kind}

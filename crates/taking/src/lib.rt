@@ -86,23 +86,11 @@ fn un_old(
     left(true, Some(t))
 }
 
-// The mark and the numbers of the input entry before: those of the former input, or of none.
-fn mark_before(had: bool) -> u8
-    ensures { result ≡ cond had 1 0 }
-{
-    if had {
-        return 1;
-    }
-    0
-}
-
+// The numbers of the input entry before: those of the former input, or of none.
 fn ten_before(had: bool, former: [i32; 10]) -> [i32; 10]
     ensures { result ≡ cond had former (zeros 10) }
 {
-    if had {
-        return former;
-    }
-    [0; 10]
+    if had { former } else { [0; 10] }
 }
 
 fn un_input(
@@ -130,7 +118,7 @@ fn un_input(
     if !compare::same_ten(ten, input) {
         return left(false, Some(t));
     }
-    held[c] = mark_before(had);
+    held[c] = u8::from(had);
     inputs::put_ten_at(&mut *inputs, c, ten_before(had, former));
     left(true, Some(t))
 }
@@ -173,8 +161,7 @@ fn inside(
         } => un_present(t, marks, xs, ys, cid, x, y, 1, old_x, old_y),
         Undo::Old { cid, x, y } => un_old(t, marks, xs, ys, cid, x, y),
         Undo::Input { cid, former: had } => un_input(t, held, inputs, cid, had, input, former),
-        Undo::Team { .. } => left(true, Some(t)),
-        Undo::Nothing => left(true, Some(t)),
+        Undo::Team { .. } | Undo::Nothing => left(true, Some(t)),
     }
 }
 
@@ -192,20 +179,8 @@ fn outside(undo: Undo) -> Off
     ensures { (input former : List ℤ) (e : Entries) → taken_is result e ≡ taken_from (board None e) (take_off (undone undo) input former None e) }
 {
     match undo {
-        Undo::Start(_) => left(false, None),
         Undo::End(u) => un_end(u),
-        Undo::New { cid: _, x: _, y: _ } => left(false, None),
-        Undo::Change {
-            cid: _,
-            x: _,
-            y: _,
-            old_x: _,
-            old_y: _,
-        } => left(false, None),
-        Undo::Old { cid: _, x: _, y: _ } => left(false, None),
-        Undo::Input { cid: _, former: _ } => left(false, None),
-        Undo::Team { .. } => left(false, None),
-        Undo::Nothing => left(false, None),
+        _ => left(false, None),
     }
 }
 
@@ -253,14 +228,8 @@ fn fits_teams(teams: &[i32; 256], undo: Undo) -> bool
     ensures { result ≡ fits_teams (joining_of (undone undo)) teams.now }
 {
     match undo {
-        Undo::Start(_) => true,
-        Undo::End(_) => true,
-        Undo::New { .. } => true,
-        Undo::Change { .. } => true,
-        Undo::Old { .. } => true,
-        Undo::Input { .. } => true,
         Undo::Team { cid, team, .. } => is_in(teams, cid, team),
-        Undo::Nothing => true,
+        _ => true,
     }
 }
 
@@ -268,15 +237,8 @@ fn fits_teams(teams: &[i32; 256], undo: Undo) -> bool
 fn put_former(teams: &mut [i32; 256], undo: Undo)
     ensures { teams.new ≡ teams_before (joining_of (undone undo)) (former_in undo) teams.old }
 {
-    match undo {
-        Undo::Start(_) => {}
-        Undo::End(_) => {}
-        Undo::New { .. } => {}
-        Undo::Change { .. } => {}
-        Undo::Old { .. } => {}
-        Undo::Input { .. } => {}
-        Undo::Team { cid, former, .. } => teams::put_team(teams, cid, former),
-        Undo::Nothing => {}
+    if let Undo::Team { cid, former, .. } = undo {
+        teams::put_team(teams, cid, former);
     }
 }
 

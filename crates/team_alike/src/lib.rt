@@ -13,12 +13,10 @@ pub fn same_teams(a: &[i32; 256], b: &[i32; 256]) -> bool
     ensures { result ≡ every 256 (same_number a.now b.now) }
 {
     let mut all = true;
-    let mut i: usize = 0;
-    while i < 256 {
+    for i in 0..256 {
         let x = a[i];
         let y = b[i];
         all = good::both(compare::same_number(x, y), all);
-        i += 1;
     }
     all
 }

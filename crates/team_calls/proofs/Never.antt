@@ -20,7 +20,8 @@ use Rattle.item.specs.Contents.{by_tag}
 use Rattle.item.specs.declared.Tag.{Tag}
 use Rattle.item.specs.declared.Tag.TheVariants.{Plain}
 use Rattle.written.proofs.KindLaws.{ex_only, kind_taken}
-use Rattle.state.specs.State.{Memory, good_pending, good_scalars, good_entries, good_reader}
+use Rattle.state.specs.State.{good_pending, good_scalars, good_entries, good_reader}
+use Rattle.state.specs.declared.Memory.{Memory}
 use Rattle.state.specs.Reading.{Event, Step, closing, raising, naming, starting, ending, skipping, next_kind, read_call, reader_after}
 use Rattle.state.specs.Acts.{Had, Act, ReadAct}
 use Rattle.state.specs.Acts as act

@@ -7,7 +7,7 @@ use mathlib.Core.List.{List}
 use lib.IntN.{ℤ}
 use Rattle.refusal.specs.declared.Refusal.TheVariants.{BadState}
 use Rattle.item.specs.Said.{Said, refusing}
-use Rattle.state.specs.State.{Memory}
+use Rattle.state.specs.declared.Memory.{Memory}
 use Rattle.state.specs.Reading.{Event, Step, step_of, call_on}
 use Rattle.state.specs.Slim.{said_is, slim_step}
 use Rattle.state.specs.steps.Parts.{memory_of}

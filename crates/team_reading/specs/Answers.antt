@@ -2,7 +2,7 @@
 use Rattle.std.specs.Prelude.{ℕ, ◌≡◌, Bool, cond, List, ℤ}
 use Rattle.refusal.specs.declared.Refusal.TheVariants.{BadState}
 use Rattle.item.specs.Said.{refusing}
-use Rattle.state.specs.State.{Memory}
+use Rattle.state.specs.declared.Memory.{Memory}
 use Rattle.state.specs.Reading.{step_of, call_on}
 use Rattle.state.specs.Slim.{slim_step}
 use Rattle.state.specs.steps.Inside.{done}

@@ -3,14 +3,13 @@
 
 ghost use Rattle.std.specs.Prelude.{◌≡◌};
 ghost use Rattle.state.specs.Slim.{said_is};
-ghost use Rattle.state.specs.steps.Inside.{memory};
 ghost use Rattle.teams.specs.Teams.{team_of};
 ghost use Rattle.team_calls.specs.Reading.{teams_said, former_said};
 ghost use Rattle.team_reading.specs.Answers.{TeamReadIs, team_call_on, LentTells};
 
 use reader::ReadAnswer;
 use refusal::Refusal;
-use state::{Answer, Outcome, Scalars};
+use state::{Answer, Memory, Outcome, Scalars};
 use teams::TeamReader;
 
 // What a reading call with teams hands back. The former team belongs to a PlayerTeam record; it is none elsewhere.
@@ -63,23 +62,15 @@ pub fn read(reader: TeamReader, window: &[u8], last: bool) -> TeamRead
     }
 }
 
-// The reading call on lent entries and teams.
+// The reading call on lent memory and teams.
 pub fn read_lent(
     scalars: Scalars,
-    marks: &mut [u8; 128],
-    xs: &mut [i32; 128],
-    ys: &mut [i32; 128],
-    held: &mut [u8; 128],
-    inputs: &mut [i32; 1280],
+    m: &mut Memory,
     teams: &mut [i32; 256],
-    input: &mut [i32; 10],
-    former: &mut [i32; 10],
     w: &[u8],
     last: bool,
 ) -> TeamOutcome
-    ensures { LentTells
-        (team_call_on scalars (memory marks.old xs.old ys.old held.old inputs.old input.old former.old) teams.old w.now last)
-        result (memory marks.new xs.new ys.new held.new inputs.new input.new former.new) teams.new }
+    ensures { LentTells (team_call_on scalars m.old teams.old w.now last) result m.new teams.new }
 {
     if !teams::good_teams(&*teams) {
         return TeamOutcome {
@@ -90,7 +81,7 @@ pub fn read_lent(
             former: None,
         };
     }
-    let outcome = lent::read_plain(scalars, marks, xs, ys, held, inputs, input, former, w, last);
+    let outcome = lent::read_plain(scalars, m, w, last);
     let answer = outcome.answer;
     let team = apply_answer(teams, answer);
     TeamOutcome {

@@ -41,28 +41,7 @@ pub struct PlayerTeam {
 fn is_player_team(which: Extension) -> bool
     ensures { result ≡ is_player_team which }
 {
-    match which {
-        Extension::Antibot => false,
-        Extension::AuthInit => false,
-        Extension::AuthLogin => false,
-        Extension::AuthLogout => false,
-        Extension::Ddnetver => false,
-        Extension::DdnetverOld => false,
-        Extension::Joinver6 => false,
-        Extension::Joinver7 => false,
-        Extension::PlayerFinish => false,
-        Extension::PlayerName => false,
-        Extension::PlayerReady => false,
-        Extension::PlayerRejoin => false,
-        Extension::PlayerSwap => false,
-        Extension::PlayerTeam => true,
-        Extension::TeamFinish => false,
-        Extension::TeamLoadFailure => false,
-        Extension::TeamLoadSuccess => false,
-        Extension::TeamPractice => false,
-        Extension::TeamSaveFailure => false,
-        Extension::TeamSaveSuccess => false,
-    }
+    matches!(which, Extension::PlayerTeam)
 }
 
 // What a record says, if it is a PlayerTeam.
@@ -111,12 +90,10 @@ pub fn good_teams(teams: &[i32; 256]) -> bool
     ensures { result ≡ good_teams teams.now }
 {
     let mut good = true;
-    let mut i: usize = 0;
-    while i < 128 {
+    for i in 0..128 {
         let mark = teams[2 * i];
         let number = teams[2 * i + 1];
         good = good_team(mark, number) & good;
-        i += 1;
     }
     good
 }

@@ -13,22 +13,16 @@ fn put(b: &[u8], out: &mut [u8], at: usize) -> usize
     requires { at + length b.now ≤ length out.old }
     ensures { (result ≡ at + length b.now) × (out.new ≡ written out.old at b.now) }
 {
-    let mut i = 0;
-    while i < b.len() {
-        out[at + i] = b[i];
-        i += 1;
-    }
-    at + i
+    let end = at + b.len();
+    out[at..end].copy_from_slice(b);
+    end
 }
 
 pub fn write_raw(b: &[u8], out: &mut [u8], at: usize) -> Result<usize, Refusal>
     ensures answer { result ≡ wrote out.old at b.now }
     ensures target { out.new ≡ written out.old at b.now }
 {
-    if out.len() < at {
-        return Err(Refusal::ShortTarget);
-    }
-    if out.len() - at < b.len() {
+    if out.len() < at || out.len() - at < b.len() {
         return Err(Refusal::ShortTarget);
     }
     Ok(put(b, out, at))
@@ -37,14 +31,7 @@ pub fn write_raw(b: &[u8], out: &mut [u8], at: usize) -> Result<usize, Refusal>
 pub fn no_zero(b: &[u8]) -> bool
     ensures { result ≡ no_zero b.now }
 {
-    let mut i = 0;
-    while i < b.len() {
-        if b[i] == 0 {
-            return false;
-        }
-        i += 1;
-    }
-    true
+    !b.contains(&0)
 }
 
 // A string and its 00. One that holds a 00 is refused.
@@ -55,10 +42,7 @@ pub fn write_string(b: &[u8], out: &mut [u8], at: usize) -> Result<usize, Refusa
     if !no_zero(b) {
         return Err(Refusal::Unwritable);
     }
-    if out.len() < at {
-        return Err(Refusal::ShortTarget);
-    }
-    if out.len() - at <= b.len() {
+    if out.len().saturating_sub(at) <= b.len() {
         return Err(Refusal::ShortTarget);
     }
     let end = put(b, out, at);
@@ -76,10 +60,7 @@ pub fn write_data(b: &[u8], out: &mut [u8], at: usize) -> Result<usize, Refusal>
     }
     let length = b.len() as i32;
     let size = int_writer::int_size(length) + b.len();
-    if out.len() < at {
-        return Err(Refusal::ShortTarget);
-    }
-    if out.len() - at < size {
+    if out.len().saturating_sub(at) < size {
         return Err(Refusal::ShortTarget);
     }
     let Ok(next) = int_writer::write_int(length, out, at) else {

@@ -11,7 +11,7 @@ use mir.Syntax.{w32}
 use mir.Val.{SFits, to_z, of_z}
 use mir.Facts.{to_z_pos}
 use Rattle.item.specs.Said.{gives}
-use Rattle.state.specs.State.{Memory}
+use Rattle.state.specs.declared.Memory.{Memory}
 use Rattle.state.specs.Reading.{tick_start, tick_end, step_of, skipping, next_tick, player_rule}
 use Rattle.state.specs.steps.Parts.{skipped, ends_at}
 use Rattle.state.specs.declared.Scalars.{Scalars}

@@ -3,7 +3,8 @@
 
 ghost use Rattle.std.specs.Prelude.{◌≡◌, ◌<◌};
 ghost use Rattle.item.specs.Said.{gives};
-ghost use Rattle.state.specs.State.{Memory, larger};
+ghost use Rattle.state.specs.State.{larger};
+ghost use Rattle.state.specs.declared.Memory.{Memory};
 ghost use Rattle.state.specs.Reading.{step_of, turned, closing, raised_to, raising, naming, starting, ending, skipping, refusal_step, out_of, next_tick, tick_skip, player_rule, other_rule, tick_rule};
 ghost use Rattle.state.specs.steps.Parts.{ticking};
 ghost use Rattle.state.specs.Views.{event_is};
@@ -93,7 +94,7 @@ pub fn run_out(s: Scalars, last: bool) -> Outcome
 fn larger_of(a: i32, b: i32) -> i32
     ensures { result ≡ larger a b }
 {
-    if a < b { b } else { a }
+    a.max(b)
 }
 
 fn raised_to(largest: i32, cid: Option<i32>) -> i32
@@ -228,8 +229,11 @@ fn other_rule(s: Scalars) -> Rule
 pub fn tick_rule(s: Scalars, kind: Kind) -> Rule
     ensures { result ≡ tick_rule s kind }
 {
+    // three arms for the players: an or-pattern that binds a signed number gets no proof
     match kind {
         Kind::PlayerDiff(cid) => player_rule(s, cid),
+        Kind::PlayerNew(cid) => player_rule(s, cid),
+        Kind::PlayerOld(cid) => player_rule(s, cid),
         Kind::Finish => {
             if s.inside {
                 return Rule::EndsHere;
@@ -237,14 +241,6 @@ pub fn tick_rule(s: Scalars, kind: Kind) -> Rule
             Rule::Reads
         }
         Kind::TickSkip => Rule::Reads,
-        Kind::PlayerNew(cid) => player_rule(s, cid),
-        Kind::PlayerOld(cid) => player_rule(s, cid),
-        Kind::InputDiff => other_rule(s),
-        Kind::InputNew => other_rule(s),
-        Kind::Message => other_rule(s),
-        Kind::Join => other_rule(s),
-        Kind::Drop => other_rule(s),
-        Kind::ConsoleCommand => other_rule(s),
-        Kind::Ex => other_rule(s),
+        _ => other_rule(s),
     }
 }

@@ -1,29 +1,25 @@
 -- What is read without a remark is the written form. Assumes nothing.
 use Rattle.std.specs.Prelude.{None}
 use Prim.Native.Nat.{ℕ, zero, suc, ◌+◌, ◌*◌, ◌-◌, ◌/◌, ◌%◌, ◌≤◌, ◌<◌}
-use mathlib.Core.Path.{◌≡◌, refl, sym, ◌∙◌, ap}
+use mathlib.Core.Path.{◌≡◌, refl, ◌∙◌}
 use mathlib.Core.List.{List, [], ◌∷◌, ◌++◌}
-use mathlib.Core.Bool.{Bool, true, false, cond}
+use mathlib.Core.Bool.{true, false}
 use native.Mathlib.Omega.{arith}
-use native.Mathlib.Decide.{ℕ_discrete}
 use native.Mathlib.Nat.{add-zero}
 use lib.ListN.{length, get_or, take, drop}
 use lib.Seq.{get_or-drop, take-append_seam}
-use lib.Dec.{eqb, ltb}
-use lib.IntN.{ℤ, pos, negsuc}
+use lib.Dec.{ltb}
+use lib.IntN.{ℤ}
 use lib.Signed.{mag}
-use borrow.Author.Tests.{eq-eqb, ne_eqb, lt-ltb, le-ltb, ltb-true, ltb-false}
+use borrow.Author.Tests.{eq-eqb, ne_eqb, lt-ltb, ltb-true, ltb-false}
 use mir.Syntax.{w32}
-use mir.Val.{SFits}
 use mir.Facts.{to_z_pos, to_z-neg}
 use Rattle.varint.specs.Integers.{weight, amount, sign_of, is_last, value_of, remark_of, read_from, read_int}
-use Rattle.varint.specs.Written.{sign_bit, extend, first_byte, later_byte, later_bytes, canonical}
+use Rattle.varint.specs.Written.{sign_bit, extend, later_bytes, canonical}
 use Rattle.num.proofs.Cases.{by_bool}
 use Rattle.varint.proofs.Writing.{later_none, later_cons}
 use Rattle.varint.proofs.RoundTrip.{room, parts, next_weight}
-use Rattle.varint.specs.declared.Remark.TheVariants.{Overlong, Padding}
-use Rattle.varint.specs.declared.IntRead.{IntRead}
-use Rattle.varint.specs.declared.IntRead.TheVariants.{Got, RunsOut}
+use Rattle.varint.specs.declared.IntRead.TheVariants.{Got}
 
 -- what an answer says of the byte it was read from
 module _ (b : ℕ) (s : List ℕ) (at k sign n next : ℕ) (v : ℤ) (r : read_from (b ∷ s) at k sign n ≡ Got v next None) where

@@ -1,16 +1,16 @@
 -- Laws of the definitions of specs/Integers.antt. Assumes nothing.
 use Rattle.std.specs.Prelude.{None}
-use Prim.Native.Nat.{ℕ, zero, suc, ◌+◌, ◌*◌, ◌-◌, ◌≤◌, ◌<◌}
-use mathlib.Core.Path.{◌≡◌, refl}
-use mathlib.Core.List.{List, [], ◌∷◌}
+use Prim.Native.Nat.{ℕ, zero, suc, ◌+◌, ◌-◌, ◌≤◌, ◌<◌}
+use mathlib.Core.Path.{◌≡◌}
+use mathlib.Core.List.{List}
 use native.Mathlib.Omega.{arith}
 use native.Mathlib.Numerals.{add-one}
 use borrow.Author.Tests.{lt-ltb}
 use mathlib.Core.Bool.{true, false, cond}
-use lib.ListN.{length, get_or, drop}
-use lib.Seq.{drop-cons}
+use lib.ListN.{length, get_or, take, drop, length-drop, drop_of_length-le}
+use lib.Seq.{drop-cons, get_or-drop, take-length}
 use lib.Dec.{eqb}
-use Rattle.varint.specs.Integers.{weight, digits, amount, sign_of, value_of, is_last, remark_of, read_from, read_int}
+use Rattle.varint.specs.Integers.{weight, amount, sign_of, value_of, is_last, remark_of, read_from, read_int}
 use Rattle.varint.specs.declared.IntRead.TheVariants.{Got, RunsOut}
 
 -- the sum of the first k bytes is below this: the weight of the next one, and of all five 2 to the power 32
@@ -36,6 +36,11 @@ module _ (s : List ℕ) (at k sign n i : ℕ) (within : i < length s) where
   unfolding read_from
   read_more e = simp (drop-cons s i 0 within, e, add-one)
 
+-- no byte stands there
+pub none_left : (s : List ℕ) (at : ℕ) → length s ≤ at → read_int s at ≡ RunsOut
+unfolding read_int read_from
+none_left s at h = simp (drop_of_length-le s h)
+
 -- a first byte that does not extend is the whole number
 pub one_byte :
     (s : List ℕ) (at : ℕ) → at < length s → get_or s at 0 < 128
@@ -55,3 +60,15 @@ not_last (suc (suc zero)) b h e = omega arith
 not_last (suc (suc (suc zero))) b h e = omega arith
 not_last (suc (suc (suc (suc zero)))) b h e = let z : ◌≡◌ {A = ℕ} 0 1 = cc in omega arith
 not_last (suc (suc (suc (suc (suc k))))) b h e = absurd (omega arith)
+
+-- ---- the elements of `&s[at..]`, as a loop sees them
+
+module _ (s : List ℕ) (at : ℕ) where
+  pub tail_is : take (length s - at) (drop at s) ≡ drop at s
+  tail_is = rw (← length-drop at s) (take-length (drop at s))
+
+  pub tail_at : (k : ℕ) → get_or (take (length s - at) (drop at s)) k 0 ≡ get_or s (at + k) 0
+  tail_at k = rw (tail_is, get_or-drop at s k 0)
+
+  pub tail_length : length (take (length s - at) (drop at s)) ≡ length s - at
+  tail_length = rw tail_is (length-drop at s)

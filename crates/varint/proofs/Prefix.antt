@@ -6,7 +6,7 @@ use mathlib.Core.List.{List, [], ◌∷◌, ◌++◌}
 use mathlib.Core.Bool.{cond}
 use native.Mathlib.Omega.{arith}
 use native.Mathlib.Nat.{add-zero}
-use lib.ListN.{length, get_or, take, drop, length-drop, take-append-drop}
+use lib.ListN.{length, get_or, drop, length-drop, take-append-drop}
 use lib.Seq.{get_or-drop, drop-append-le, drop-drop}
 use lib.Dec.{eqb}
 use lib.IntN.{ℤ}

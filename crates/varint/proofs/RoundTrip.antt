@@ -3,13 +3,11 @@ use Rattle.std.specs.Prelude.{None}
 use Prim.Native.Nat.{ℕ, zero, suc, ◌+◌, ◌*◌, ◌-◌, ◌/◌, ◌%◌, ◌≤◌, ◌<◌}
 use mathlib.Core.Path.{◌≡◌, refl, sym, ◌∙◌, ap}
 use mathlib.Core.List.{List, [], ◌∷◌, ◌++◌, append_assoc}
-use mathlib.Core.Bool.{Bool, true, false, cond}
 use native.Mathlib.Omega.{arith}
 use native.Mathlib.Decide.{ℕ_discrete}
 use native.Mathlib.Nat.{div-add-mod', add-mul, mul_assoc, add_comm, add-zero}
-use lib.ListN.{length, get_or, take, drop}
+use lib.ListN.{length, get_or}
 use lib.Seq.{drop-append_seam, get_or-append_seam}
-use lib.Dec.{eqb, ltb}
 use lib.Pow.{pow-add}
 use lib.IntN.{ℤ, pos, negsuc}
 use lib.Signed.{mag}
@@ -18,12 +16,10 @@ use mir.Syntax.{w32}
 use mir.Val.{SFits}
 use mir.Facts.{to_z_pos, to_z-neg}
 use Rattle.varint.specs.Integers.{weight, amount, sign_of, value_of, remark_of, read_from, read_int}
-use Rattle.varint.specs.Written.{sign_bit, extend, first_byte, later_byte, later_bytes, canonical}
+use Rattle.varint.specs.Written.{sign_bit, first_byte, later_byte, later_bytes, canonical}
 use Rattle.num.proofs.Cases.{by_eq}
 use Rattle.varint.proofs.Writing.{later_none, later_cons}
-use Rattle.varint.specs.declared.Remark.TheVariants.{Overlong, Padding}
-use Rattle.varint.specs.declared.IntRead.{IntRead}
-use Rattle.varint.specs.declared.IntRead.TheVariants.{Got, RunsOut}
+use Rattle.varint.specs.declared.IntRead.TheVariants.{Got}
 
 -- what is left of a number, and its parts in the next weights
 pub parts : (r w : ℕ) → r % 128 * w + r / 128 * (128 * w) ≡ r * w

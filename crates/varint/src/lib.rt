@@ -28,10 +28,11 @@ pub enum IntRead {
 fn digit_bits(k: usize, b: u8) -> u8
     ensures { result ≡ digits k b }
 {
-    if k == 0 {
-        return b % 64;
+    match k {
+        0 => b % 64,
+        4 => b % 32,
+        _ => b % 128,
     }
-    if k == 4 { b % 32 } else { b % 128 }
 }
 
 // The weight of byte k's lowest digit.
@@ -39,13 +40,14 @@ fn weight_of(k: usize) -> u32
     requires { k < 5 }
     ensures { result ≡ weight k }
 {
-    if k == 0 {
-        return 1;
+    match k {
+        0 => 1,
+        _ => 1u32 << (7 * k - 1) as u32,
     }
-    1u32 << (7 * k - 1) as u32
 }
 
 // What byte k of a number adds to it.
+#[tactic(auto, unfolding(crate::specs::Integers::amount))]
 fn add_byte(k: usize, b: u8) -> u32
     requires { k < 5 }
     ensures { result ≡ amount k b }
@@ -53,6 +55,7 @@ fn add_byte(k: usize, b: u8) -> u32
     digit_bits(k, b) as u32 * weight_of(k)
 }
 
+#[tactic(auto, unfolding(crate::specs::Integers::value_of))]
 fn value_of(sign: u8, n: u32) -> i32
     ensures { result ≡ value_of sign n }
 {
@@ -63,58 +66,49 @@ fn value_of(sign: u8, n: u32) -> i32
     }
 }
 
+#[tactic(auto, unfolding(crate::specs::Integers::remark_of))]
 fn remark_of(k: usize, b: u8) -> Option<Remark>
     ensures { result ≡ remark_of k b }
 {
-    if k == 0 {
-        return None;
+    match (k, b) {
+        (0, _) => None,
+        (_, 0) => Some(Remark::Overlong),
+        (4, 16..) => Some(Remark::Padding),
+        _ => None,
     }
-    if b == 0 {
-        return Some(Remark::Overlong);
-    }
-    if k == 4 {
-        if b < 16 {
-            return None;
-        }
-        return Some(Remark::Padding);
-    }
-    None
 }
 
 fn is_last(k: usize, b: u8) -> bool
     ensures { result ≡ is_last k b }
 {
-    if k == 4 { true } else { b < 128 }
+    k == 4 || b < 128
 }
 
 // The integer at a place of the window, byte by byte.
+#[tactic(auto, using(crate::proofs::Laws::none_left))]
 fn read_bytes(s: &[u8], at: usize) -> IntRead
     ensures { result ≡ read_int s.now at }
 {
-    if s.len() <= at {
+    let Some(&first) = s.get(at) else {
         return IntRead::RunsOut;
-    }
-    let sign = s[at] / 64 % 2;
+    };
+    let sign = first / 64 % 2;
     let mut n: u32 = 0;
-    let mut k: usize = 0;
-    let mut i = at;
-    while i < s.len() {
-        let b = s[i];
+    for (k, &b) in s[at..].iter().enumerate() {
         n += add_byte(k, b);
         if is_last(k, b) {
             return IntRead::Got {
                 value: value_of(sign, n),
-                next: i + 1,
+                next: at + k + 1,
                 remark: remark_of(k, b),
             };
         }
-        k += 1;
-        i += 1;
     }
     IntRead::RunsOut
 }
 
 // The integer of one byte that does not extend.
+#[tactic(auto, unfolding(crate::specs::Integers::amount))]
 fn short_value(b: u8) -> i32
     requires { b < 128 }
     ensures { result ≡ value_of (sign_of b) (amount 0 b) }
@@ -123,19 +117,17 @@ fn short_value(b: u8) -> i32
 }
 
 // The integer at a place of the window. Most have one byte, and that byte says so.
+#[tactic(auto, using(crate::proofs::Laws::none_left, crate::proofs::Laws::one_byte))]
 pub fn read_int(s: &[u8], at: usize) -> IntRead
     ensures { result ≡ read_int s.now at }
 {
-    if s.len() <= at {
-        return IntRead::RunsOut;
-    }
-    let b = s[at];
-    if b < 128 {
-        return IntRead::Got {
+    match s.get(at) {
+        None => IntRead::RunsOut,
+        Some(&b) if b < 128 => IntRead::Got {
             value: short_value(b),
             next: at + 1,
             remark: None,
-        };
+        },
+        Some(_) => read_bytes(s, at),
     }
-    read_bytes(s, at)
 }

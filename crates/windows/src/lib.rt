@@ -12,20 +12,14 @@ use many::Stop;
 pub fn is_last(ended: bool, short: bool) -> bool
     ensures { result ≡ cond ended short false }
 {
-    if ended {
-        return short;
-    }
-    false
+    ended && short
 }
 
 // Whether a window, short or full, that answers more after so many events is too long.
 pub fn is_too_long(short: bool, count: usize) -> bool
     ensures { result ≡ too_long short count }
 {
-    if short {
-        return false;
-    }
-    count == 0
+    !short && count == 0
 }
 
 // Whether calls that stopped so, after so many events, end the reading.
@@ -35,8 +29,7 @@ pub fn has_ending(short: bool, stop: Stop, count: usize) -> bool
     match stop {
         Stop::Full => false,
         Stop::More => is_too_long(short, count),
-        Stop::Finish => true,
-        Stop::Refused(_) => true,
+        Stop::Finish | Stop::Refused(_) => true,
     }
 }
 
@@ -44,10 +37,5 @@ pub fn has_ending(short: bool, stop: Stop, count: usize) -> bool
 pub fn wants_more(short: bool, stop: Stop) -> bool
     ensures { result ≡ wants short (halt_of stop) }
 {
-    match stop {
-        Stop::Full => false,
-        Stop::More => short,
-        Stop::Finish => false,
-        Stop::Refused(_) => false,
-    }
+    short && matches!(stop, Stop::More)
 }

@@ -1,6 +1,5 @@
 -- `alike::same_marks` meets its contract. Assumes nothing.
 use mathlib.Core.Path.{◌≡◌}
-use native.Mathlib.Omega.{arith}
 use Rattle.state.proofs.Every.{none_yet, one_more}
 use Rattle.alike.specs.Alike.{same_mark}
 use Rattle.alike.proofs.same_marks.Goals as goal
@@ -11,8 +10,7 @@ loop-i-preserved c =
     let l = c.loop-i in
     let p = same_mark a.a.now a.b.now in
     let t : c.same_mark.result ≡ p l.i = rw c.same_mark.ensures in
-    (omega arith, one_more p l.i _ _ _ t l.invariant.1 c.both-all.ensures)
+    one_more p l.i _ _ _ t l.invariant c.both-all.ensures
 
 pub loop-i-init : goal.loop-i-init
-loop-i-init c =
-    (omega arith, none_yet _)
+loop-i-init c = none_yet _

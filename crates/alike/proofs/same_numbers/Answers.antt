@@ -1,6 +1,5 @@
 -- `alike::same_numbers` meets its contract. Assumes nothing.
 use mathlib.Core.Path.{◌≡◌}
-use native.Mathlib.Omega.{arith}
 use lib.ListN.{get_or}
 use lib.IntN.{pos}
 use Rattle.state.proofs.Numbers.{element}
@@ -16,8 +15,7 @@ loop-i-preserved c =
     let x = element (get_or a.a.now l.i (pos 0)) c.x-1.given in
     let y = element (get_or a.b.now l.i (pos 0)) c.y-1.given in
     let t : c.same_number.result ≡ p l.i = rw (c.same_number.ensures, x, y) in
-    (omega arith, one_more p l.i _ _ _ t l.invariant.1 c.both-all.ensures)
+    one_more p l.i _ _ _ t l.invariant c.both-all.ensures
 
 pub loop-i-init : goal.loop-i-init
-loop-i-init c =
-    (omega arith, none_yet _)
+loop-i-init c = none_yet _

@@ -1,7 +1,7 @@
 -- Which answers have arguments beside them, and what the function that reads them again hands over.
 use Rattle.std.specs.Prelude.{ℕ, ◌≡◌, Bool, true, false, List, []}
 use Rattle.fields.specs.declared.Args.{Args}
-use Rattle.state.specs.State.{Memory}
+use Rattle.state.specs.declared.Memory.{Memory}
 use Rattle.item.specs.Contents.{item_of, with_beside, no_args, args_in}
 use Rattle.state.specs.Reading.{Event, other, open_call}
 use Rattle.state.specs.Views.{event_is}

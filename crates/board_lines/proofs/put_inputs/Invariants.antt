@@ -1,5 +1,4 @@
 -- `board_lines::put_inputs` meets its contract. The loop's invariant: the lines of the clients below the next are put. Assumes nothing.
-use Prim.Native.Nat.{◌-◌}
 use mathlib.Core.List.{[]}
 use Rattle.state.specs.State.{holds, entries_with}
 use Rattle.board_lines.specs.BoardLines.{input_line}
@@ -10,6 +9,3 @@ abbrev pub invariant-loop-c : goal.invariant-loop-c
 invariant-loop-c l =
     let e = entries_with [] [] [] l.held l.inputs in
     Through 138 (holds e) (input_line e) (input_le e) l.initial.out l.at l.c l.next l.out
-
-abbrev pub decreases-loop-c : goal.decreases-loop-c
-decreases-loop-c l = 128 - l.c

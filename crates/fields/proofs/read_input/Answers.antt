@@ -3,7 +3,7 @@ use mathlib.Core.Path.{◌≡◌, sym, ◌∙◌}
 use borrow.Author.Rules.{rules}
 use mir.Syntax.{w32}
 use mir.Val.{to_z, of_z}
-use Rattle.fields.proofs.Inputs.{input_out, input_got}
+use Rattle.fields.proofs.Inputs.{input_got}
 use Rattle.fields.proofs.read_input.Goals as goal
 
 pub returns : goal.returns

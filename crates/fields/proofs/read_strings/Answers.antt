@@ -1,11 +1,9 @@
 -- `fields::read_strings` meets its contract. The loop's invariant: the array holds the strings so far, and the strings still to come,
 -- after those, are the answer. Assumes nothing.
-use Prim.Native.Nat.{◌-◌}
-use mathlib.Core.Path.{sym, ◌∙◌, ap}
+use mathlib.Core.Path.{◌≡◌, sym, ◌∙◌, ap}
 use native.Mathlib.Omega.{arith}
-use borrow.Author.Rules.{rules}
 use Rattle.fields.specs.steps.Reads.{args_read}
-use Rattle.fields.proofs.Arguments.{Far, far_start, far_done, far_out, far_many, far_more}
+use Rattle.fields.proofs.Arguments.{far_done, far_out, far_many, far_more}
 use Rattle.fields.proofs.read_strings.Goals as goal
 
 pub returns-in_default : goal.returns-in_default
@@ -37,4 +35,5 @@ pub returns : goal.returns
 returns c =
     let l = c.loop-count in
     let a = c.args in
-    far_done a.s.now a.at a.n l.parts l.next l.count l.invariant c.loop-count-test.false
+    let e : l.count ≡ a.n = omega (arith, l.invariant.some) in
+    rw e at (far_done a.s.now a.at a.n l.parts l.next l.count l.invariant c.loop-count-test.false)

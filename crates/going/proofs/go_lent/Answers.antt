@@ -106,7 +106,7 @@ went-requires c =
     let k = n in
     let s = k in
     over_within (given_4 s) s.args.events _ k.good_rewind.ensures k.if-not-good_rewind.false _ (has_3 k)
-    n.if-not-has_start.false _ n.least-n.ensures (walked c) (c.step_over-over.ensures s.args.counts)
+    n.if-not-has_start.false _ n.min-n.ensures (walked c) (c.step_over-over.ensures s.args.counts)
 
 -- the rewind that is given
 abbrev given_5 : After-went → Rewind
@@ -135,5 +135,5 @@ returns c =
     let s = k in
     ap (whole (given_5 s).reel (walked_2 c).taken.board) c.went.ensures
     ∙ went_over (given_5 s) s.args.events _ k.good_rewind.ensures k.if-not-good_rewind.false _ (has_4 k)
-    m.if-not-has_start.false _ m.least-n.ensures (walked_2 c) (c.step_over-over.ensures s.args.counts)
+    m.if-not-has_start.false _ m.min-n.ensures (walked_2 c) (c.step_over-over.ensures s.args.counts)
     m.if-progress.false

@@ -1,5 +1,4 @@
 -- `good::good_each` meets its contract. Assumes nothing.
-use native.Mathlib.Omega.{arith}
 use Rattle.state.specs.steps.Parts.{good_input}
 use Rattle.good.specs.steps.Blocks.{from}
 use Rattle.state.proofs.Every.{none_yet, one_more}
@@ -10,8 +9,7 @@ loop-k-preserved c =
     let a = c.args in
     let l = c.loop-k in
     let p = from a.c (good_input a.held.now a.inputs.now) in
-    (omega arith, one_more p l.k _ _ _ c.good_input.ensures l.invariant.1 c.both-good.ensures)
+    one_more p l.k _ _ _ c.good_input.ensures l.invariant c.both-good.ensures
 
 pub loop-k-init : goal.loop-k-init
-loop-k-init c =
-    (omega arith, none_yet _)
+loop-k-init c = none_yet _

@@ -11,12 +11,11 @@ loop-b-preserved c =
     let a = c.args in
     let l = c.loop-b in
     let p = good_input a.held.now a.inputs.now in
-    (omega arith, one_block p l.b _ _ _ c.good_sixteen.ensures l.invariant.1 c.both-good.ensures)
+    one_block p l.b _ _ _ c.good_sixteen.ensures l.invariant c.both-good.ensures
 
 pub returns : goal.returns
 unfolding good_inputs
-returns c = all_tested _ c.loop-b.invariant.1 (omega arith)
+returns c = all_tested _ c.loop-b.invariant (omega arith)
 
 pub loop-b-init : goal.loop-b-init
-loop-b-init c =
-    (omega arith, none_yet _)
+loop-b-init c = none_yet _

@@ -1,12 +1,9 @@
 -- `good::good_inputs` meets its contract. Assumes nothing.
-use Prim.Native.Nat.{◌≤◌, ◌-◌, ◌*◌}
+use Prim.Native.Nat.{◌*◌}
 use mathlib.Core.Path.{◌≡◌}
 use Rattle.state.specs.State.{every}
 use Rattle.state.specs.steps.Parts.{good_input}
 use Rattle.good.proofs.good_inputs.Given as goal
 
 abbrev pub invariant-loop-b : goal.invariant-loop-b
-invariant-loop-b l = (l.b ≤ 8) × (l.good ≡ every (16 * l.b) (good_input l.held l.inputs))
-
-abbrev pub decreases-loop-b : goal.decreases-loop-b
-decreases-loop-b l = 8 - l.b
+invariant-loop-b l = l.good ≡ every (16 * l.b) (good_input l.held l.inputs)

@@ -19,12 +19,11 @@ loop-i-preserved c =
     let t : c.good_entry.result ≡ p l.i =
     rw (c.good_entry.ensures, c.both.ensures, c.is_zero-in-loop-i.ensures, c.is_zero.ensures, x, y)
     in
-    (omega arith, one_more p l.i _ _ _ t l.invariant.1 c.both-good.ensures)
+    one_more p l.i _ _ _ t l.invariant c.both-good.ensures
 
 pub returns : goal.returns
 unfolding good_players
-returns c = all_tested _ c.loop-i.invariant.1 (omega arith)
+returns c = all_tested _ c.loop-i.invariant (omega arith)
 
 pub loop-i-init : goal.loop-i-init
-loop-i-init c =
-    (omega arith, none_yet _)
+loop-i-init c = none_yet _

@@ -1,12 +1,8 @@
 -- `good::good_players` meets its contract. Assumes nothing.
-use Prim.Native.Nat.{◌≤◌, ◌-◌}
 use mathlib.Core.Path.{◌≡◌}
 use Rattle.state.specs.State.{every}
 use Rattle.state.specs.steps.Parts.{good_player}
 use Rattle.good.proofs.good_players.Given as goal
 
 abbrev pub invariant-loop-i : goal.invariant-loop-i
-invariant-loop-i l = (l.i ≤ 128) × (l.good ≡ every l.i (good_player l.marks l.xs l.ys))
-
-abbrev pub decreases-loop-i : goal.decreases-loop-i
-decreases-loop-i l = 128 - l.i
+invariant-loop-i l = l.good ≡ every l.i (good_player l.marks l.xs l.ys)

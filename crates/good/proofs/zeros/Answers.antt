@@ -1,7 +1,6 @@
 -- `good::zeros` meets its contract. Assumes nothing.
 use Prim.Native.Nat.{◌+◌, ◌*◌}
 use mathlib.Core.Path.{◌≡◌}
-use native.Mathlib.Omega.{arith}
 use lib.ListN.{get_or}
 use lib.IntN.{pos}
 use Rattle.state.specs.steps.Parts.{zero_at}
@@ -16,8 +15,7 @@ loop-k-preserved c =
     let p = zero_at a.inputs.now a.c in
     let x = element (get_or a.inputs.now (10 * a.c + l.k) (pos 0)) c.x-1.given in
     let t : c.is_zero.result ≡ p l.k = rw (c.is_zero.ensures, x) in
-    (omega arith, one_more p l.k _ _ _ t l.invariant.1 c.both-blank.ensures)
+    one_more p l.k _ _ _ t l.invariant c.both-blank.ensures
 
 pub loop-k-init : goal.loop-k-init
-loop-k-init c =
-    (omega arith, none_yet _)
+loop-k-init c = none_yet _

@@ -1,12 +1,8 @@
 -- `good::zeros` meets its contract. Assumes nothing.
-use Prim.Native.Nat.{◌≤◌, ◌-◌}
 use mathlib.Core.Path.{◌≡◌}
 use Rattle.state.specs.State.{every}
 use Rattle.state.specs.steps.Parts.{zero_at}
 use Rattle.good.proofs.zeros.Given as goal
 
 abbrev pub invariant-loop-k : goal.invariant-loop-k
-invariant-loop-k l = (l.k ≤ l.n) × (l.blank ≡ every l.k (zero_at l.inputs l.c))
-
-abbrev pub decreases-loop-k : goal.decreases-loop-k
-decreases-loop-k l = l.n - l.k
+invariant-loop-k l = l.blank ≡ every l.k (zero_at l.inputs l.c)

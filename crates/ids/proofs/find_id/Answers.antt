@@ -1,10 +1,9 @@
 -- `ids::find_id` meets its contract. The loop's invariant: what is found among those left is the answer. Assumes nothing.
 use Rattle.std.specs.Prelude.{Some}
-use Prim.Native.Nat.{◌+◌, ◌-◌, ◌≤◌}
+use Prim.Native.Nat.{◌+◌}
 use mathlib.Core.Path.{◌≡◌, sym, ◌∙◌, ap}
 use mathlib.Core.Bool.{Bool, true, false, cond}
 use native.Mathlib.Omega.{arith}
-use borrow.Author.Rules.{rules}
 use lib.ListN.{take, drop}
 use Rattle.packer.specs.Parts.{shown}
 use Rattle.packer.proofs.Reading.{shown_in, shown_out}

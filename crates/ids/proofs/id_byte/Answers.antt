@@ -3,7 +3,6 @@ use Prim.Native.Nat.{ℕ, ◌+◌, ◌-◌, ◌/◌, ◌%◌, ◌^◌}
 use mathlib.Core.Path.{◌≡◌, sym, ap, ◌∙◌}
 use native.Mathlib.Omega.{arith}
 use lib.ListN.{get_or, get_or-eq_default}
-use borrow.Author.Rules.{rules}
 use Rattle.extensions.specs.Extensions.{id_at}
 use Rattle.ids.specs.declared.Halves.{Halves}
 use Rattle.ids.proofs.ByHalves.{first_byte, second_byte}

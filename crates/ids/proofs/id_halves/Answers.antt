@@ -1,7 +1,6 @@
 -- `ids::id_halves` meets its contract: each arm as the table has it. Assumes nothing.
 use Prim.Native.Nat.{ℕ}
 use mathlib.Core.Path.{◌≡◌, refl, sym, ap, ◌∙◌}
-use borrow.Author.Rules.{rules}
 use Rattle.extensions.specs.Extensions.{extension_row, id_at}
 use Rattle.extensions.specs.declared.Extension.{Extension}
 use Rattle.ids.specs.steps.Table.{halves_with, halves}

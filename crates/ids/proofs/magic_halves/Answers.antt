@@ -1,6 +1,4 @@
 -- `ids::magic_halves` meets its contract. Assumes nothing.
-use mathlib.Core.Path.{◌≡◌}
-use borrow.Author.Rules.{rules}
 use Rattle.kinds.specs.Magic.{magic}
 use Rattle.ids.proofs.magic_halves.Goals as goal
 

@@ -25,8 +25,8 @@ loop-k-preserved c =
     let ff : SFits w32 f = record { sfits = c.wrapping_add-arg-1.given } in
     let fd : SFits w32 d = record { sfits = c.wrapping_add-arg-in-loop-k-1.given } in
     let x = added f d _ ff fd c.wrapping_add-x.ensures.fits_signed c.wrapping_add-x.ensures.value in
-    let e = turn (zeros 10) (sums a.f a.d) l.k l.t _ l.invariant.1.1 (x ∙ sym (each_at g l.k test)) test test in
-    (omega arith, (length-set l.t l.k _ ∙ l.invariant.1.0, e))
+    let e = turn (zeros 10) (sums a.f a.d) l.k l.t _ l.invariant.1 (x ∙ sym (each_at g l.k test)) test test in
+    (length-set l.t l.k _ ∙ l.invariant.0, e)
 
 pub returns : goal.returns
 unfolding sums
@@ -34,4 +34,4 @@ returns c =
     let a = c.args in
     let l = c.loop-k in
     let e : l.k ≡ 10 = omega arith in
-    l.invariant.1.1 ∙ rw e (filled (zeros 10) (sums a.f a.d) refl refl)
+    l.invariant.1 ∙ rw e (filled (zeros 10) (sums a.f a.d) refl refl)

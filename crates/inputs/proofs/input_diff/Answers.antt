@@ -1,29 +1,28 @@
 -- `inputs::input_diff` meets its contract. Assumes nothing.
 use mathlib.Core.Path.{◌∙◌}
-use Rattle.state.specs.steps.Inside.{memory}
 use Rattle.state.proofs.Numbers.{back, bits_are}
 use Rattle.inputs.proofs.Cases.{diff_far, diff_away, diff_here}
 use Rattle.inputs.proofs.input_diff.Goals as goal
 
-pub returns-then-held-c-ne1 : goal.returns-then-held-c-ne1
-returns-then-held-c-ne1 c marks xs ys =
+pub returns-then-m-c-ne1 : goal.returns-then-m-c-ne1
+returns-then-m-c-ne1 c =
     let st = c in
     let a = st.args in
-    let m = memory marks xs ys a.held.now a.inputs.now a.input.now a.former.now in
+    let m = a.m.now in
     let b = bits_are a.cid _ st.ranges.cid c.bits-bits.ensures in
-    c.refuse-then-held-c-ne1.ensures m ∙ diff_away a.s m a.cid a.ds a.used _ st.ranges.cid b c.if-bits-ge128.false c.if-held-c-ne1.true
+    c.refuse-then-m-c-ne1.ensures _ ∙ diff_away a.s m a.cid a.ds a.used _ st.ranges.cid b c.if-bits-ge128.false c.if-m-c-ne1.true
 
 pub returns : goal.returns
-returns c marks xs ys =
+returns c =
     let st = c in
     let a = st.args in
-    let m = memory marks xs ys a.held.now a.inputs.now a.input.now a.former.now in
+    let m = a.m.now in
     let b = bits_are a.cid _ st.ranges.cid c.bits-bits.ensures in
     c.gave.ensures _
     ∙ rw (back a.cid st.ranges.cid, c.put_ten.ensures, c.add_ten-new.ensures, c.take_ten-old.ensures)
-    (diff_here a.s m a.cid a.ds a.used _ st.ranges.cid b c.if-bits-ge128.false c.if-held-c-ne1.false)
+    (diff_here a.s m a.cid a.ds a.used _ st.ranges.cid b c.if-bits-ge128.false c.if-m-c-ne1.false)
 
 pub returns-then-bits-ge128 : goal.returns-then-bits-ge128
-returns-then-bits-ge128 c marks xs ys =
-    let st = c in let a = st.args in let m = memory marks xs ys a.held.now a.inputs.now a.input.now a.former.now in
-    c.refuse.ensures m ∙ diff_far a.s m a.cid a.ds a.used _ _ st.ranges.cid c.bits-bits.ensures c.if-bits-ge128.true c.no_entry.ensures
+returns-then-bits-ge128 c =
+    let st = c in let a = st.args in let m = a.m.now in
+    c.refuse.ensures _ ∙ diff_far a.s m a.cid a.ds a.used _ _ st.ranges.cid c.bits-bits.ensures c.if-bits-ge128.true c.no_entry.ensures

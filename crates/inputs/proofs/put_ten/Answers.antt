@@ -9,15 +9,15 @@ use Rattle.inputs.proofs.Tens.{put_turn}
 use Rattle.inputs.proofs.put_ten.Goals as goal
 
 pub loop-k-preserved : goal.loop-k-preserved
-loop-k-preserved c =
+loop-k-preserved g c =
     let a = c.args in
     let l = c.loop-k in
     let x = element (get_or a.t l.k (pos 0)) c.x-1.given in
-    (omega arith, put_turn a.inputs.now a.c a.t l.k l.inputs _ l.invariant.1 x c.loop-k-test.true)
+    put_turn a.numbers.now a.p a.t l.k l.numbers _ l.invariant x c.loop-k-test.true
 
 pub returns : goal.returns
 unfolding put_ten
-returns c =
+returns g c =
     let l = c.loop-k in
     let e : l.k ≡ 10 = omega arith in
-    rw e at l.invariant.1
+    rw e at l.invariant

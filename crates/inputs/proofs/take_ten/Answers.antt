@@ -12,19 +12,19 @@ use Rattle.inputs.proofs.take_ten.Goals as goal
 
 pub loop-k-preserved : goal.loop-k-preserved
 unfolding ten_of
-loop-k-preserved c =
+loop-k-preserved g c =
     let a = c.args in
     let l = c.loop-k in
     let test = c.loop-k-test.true in
-    let f : ℕ → ℤ = λ k. get_or a.inputs.now (10 * a.c + k) (pos 0) in
+    let f : ℕ → ℤ = λ k. get_or a.numbers.now (10 * a.p + k) (pos 0) in
     let x = element (f l.k) c.x-1.given ∙ sym (each_at f l.k test) in
-    let e = turn (zeros 10) (ten_of a.inputs.now a.c) l.k l.t _ l.invariant.1.1 x test test in
-    (omega arith, (length-set l.t l.k _ ∙ l.invariant.1.0, e))
+    let e = turn (zeros 10) (ten_of a.numbers.now a.p) l.k l.t _ l.invariant.1 x test test in
+    (length-set l.t l.k _ ∙ l.invariant.0, e)
 
 pub returns : goal.returns
 unfolding ten_of
-returns c =
+returns g c =
     let a = c.args in
     let l = c.loop-k in
     let e : l.k ≡ 10 = omega arith in
-    l.invariant.1.1 ∙ rw e (filled (zeros 10) (ten_of a.inputs.now a.c) refl refl)
+    l.invariant.1 ∙ rw e (filled (zeros 10) (ten_of a.numbers.now a.p) refl refl)

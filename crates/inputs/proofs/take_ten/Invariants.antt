@@ -1,5 +1,4 @@
 -- `inputs::take_ten` meets its contract. Assumes nothing.
-use Prim.Native.Nat.{◌-◌, ◌≤◌}
 use mathlib.Core.Path.{◌≡◌}
 use lib.ListN.{length}
 use lib.Seq.{paste}
@@ -7,7 +6,4 @@ use Rattle.state.specs.State.{ten_of}
 use Rattle.inputs.proofs.take_ten.Given as goal
 
 abbrev pub invariant-loop-k : goal.invariant-loop-k
-invariant-loop-k l = (l.k ≤ 10) × ((length l.t ≡ 10) × (l.t ≡ paste l.initial.t 0 (ten_of l.inputs l.c) l.k))
-
-abbrev pub decreases-loop-k : goal.decreases-loop-k
-decreases-loop-k l = 10 - l.k
+invariant-loop-k g l = (length l.t ≡ 10) × (l.t ≡ paste l.initial.t 0 (ten_of l.numbers l.p) l.k)

@@ -8,5 +8,5 @@ returns c =
     let f = r in
     let l = f in
     let a = l.args in
-    turned a.list a.reader a.bytes.now a.ended l.least-end.result l.least-end.ensures f.is_last.result f.is_last.ensures
+    turned a.list a.reader a.bytes.now a.ended l.min-end.result l.min-end.ensures f.is_last.result f.is_last.ensures
     r.read_on-read.result r.read_on-read.ensures c.after_turn.result c.after_turn.ensures

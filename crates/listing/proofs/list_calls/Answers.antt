@@ -5,7 +5,6 @@ use borrow.Author.Rules.{rules}
 use borrow.Author.Tests.{le-leb, not-true, not-false}
 use mir.Syntax.{w32}
 use mir.Val.{to_z, of_z}
-use Rattle.state.specs.steps.Inside.{memory}
 use Rattle.results.specs.Results.{results_with}
 use Rattle.listing.proofs.Turns.{starts, in_window, less, full, turn, more, finish, refused}
 use Rattle.listing.proofs.list_calls.Goals as goal
@@ -14,7 +13,7 @@ pub loop-used-init : goal.loop-used-init
 loop-used-init c =
     let a = c.args in
     (starts a.w.now a.last (results_with a.listed.now a.times.now a.ticks.now a.others) a.scalars
-    (memory a.marks.now a.xs.now a.ys.now a.held.now a.inputs.now a.input.now a.former.now) c.requires
+    a.m.now c.requires
     (le-leb a.others 18446744073709551615 (omega arith)))
 
 pub returns-then-not-kept : goal.returns-then-not-kept

@@ -30,7 +30,7 @@ abbrev pub unchanged : Refusal → Results → Reader → ListRun
 unchanged why l r =
     record { halt = is_refused (number_of why) (values_of why); gave = false; used = 0; list = l; reader = r }
 
--- calls on lent entries beside a lent list, which are l and e after them
+-- calls on lent memory beside a lent list, which are l and e after them
 abbrev pub calls_leave : CallsRead → Results → Entries → ListRun
 calls_leave c l e =
     record { halt = halt_of c.end; gave = c.gave; used = c.used; list = l; reader = reader_with c.scalars e }

@@ -15,7 +15,7 @@ use Rattle.varint.specs.declared.IntRead.TheVariants as ints
 use Rattle.packer.specs.Parts.{read_raw, as_data, data_after, data_of, read_data}
 use Rattle.packer.specs.declared.PartRead.{PartRead}
 use Rattle.packer.specs.declared.PartRead.TheVariants as parts
-use Rattle.num.proofs.Signs.{below_zero, not_below_zero, read_back, casts_64}
+use Rattle.num.proofs.Signs.{below_zero, not_below_zero, read_back}
 use Rattle.packer.proofs.read_data.Goals as goal
 use Rattle.packer.proofs.read_data.Goals.{In-Got-read_raw, In_default-read_raw}
 

@@ -11,12 +11,11 @@ pub loop-c-preserved : goal.loop-c-preserved
 loop-c-preserved c =
     let t = c.args.teams.now in
     let l = c.loop-c in
-    (omega arith, one_more (without t) l.c _ _ _ (ap not c.has_team.ensures) l.invariant.1 c.both-none.ensures)
+    one_more (without t) l.c _ _ _ (ap not c.has_team.ensures) l.invariant c.both-none.ensures
 
 pub returns : goal.returns
 unfolding any_team
-returns c = ap not (all_tested _ c.loop-c.invariant.1 (omega arith))
+returns c = ap not (all_tested _ c.loop-c.invariant (omega arith))
 
 pub loop-c-init : goal.loop-c-init
-loop-c-init c =
-    (omega arith, none_yet _)
+loop-c-init c = none_yet _

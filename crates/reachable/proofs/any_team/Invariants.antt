@@ -1,5 +1,5 @@
 -- `reachable::any_team` meets its contract. Assumes nothing.
-use Prim.Native.Nat.{ℕ, ◌≤◌, ◌-◌}
+use Prim.Native.Nat.{ℕ}
 use mathlib.Core.Path.{◌≡◌}
 use mathlib.Core.Bool.{Bool, not}
 use mathlib.Core.List.{List}
@@ -12,7 +12,4 @@ abbrev pub without : List ℤ → ℕ → Bool
 without t c = not (has_team t c)
 
 abbrev pub invariant-loop-c : goal.invariant-loop-c
-invariant-loop-c l = (l.c ≤ 128) × (l.none ≡ every l.c (without l.teams))
-
-abbrev pub decreases-loop-c : goal.decreases-loop-c
-decreases-loop-c l = 128 - l.c
+invariant-loop-c l = l.none ≡ every l.c (without l.teams)

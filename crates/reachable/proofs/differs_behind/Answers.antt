@@ -26,12 +26,11 @@ loop-c-preserved c =
       c.player_at.ensures [] [],
       lt-ltb l.c 128 c.loop-c-test.true,
     ) in
-    (omega arith, one_more p l.c _ _ _ t l.invariant.1 c.both-all.ensures)
+    one_more p l.c _ _ _ t l.invariant c.both-all.ensures
 
 pub returns : goal.returns
 unfolding differs_behind
-returns c held inputs wheld winputs = ap not (all_tested _ c.loop-c.invariant.1 (omega arith))
+returns c held inputs wheld winputs = ap not (all_tested _ c.loop-c.invariant (omega arith))
 
 pub loop-c-init : goal.loop-c-init
-loop-c-init c =
-    (omega arith, none_yet _)
+loop-c-init c = none_yet _

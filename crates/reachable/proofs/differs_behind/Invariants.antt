@@ -1,6 +1,6 @@
 -- `reachable::differs_behind` meets its contract. Assumes nothing.
 use Rattle.std.specs.Prelude.{Option}
-use Prim.Native.Nat.{ℕ, ◌≤◌, ◌-◌}
+use Prim.Native.Nat.{ℕ}
 use mathlib.Core.Path.{◌≡◌}
 use mathlib.Core.Bool.{Bool, true, cond}
 use mathlib.Core.List.{List, []}
@@ -21,7 +21,4 @@ stays p e w c = cond (at_or_below (pos c) p) (same_player (player_of e c) (playe
 
 abbrev pub invariant-loop-c : goal.invariant-loop-c
 invariant-loop-c l =
-    (l.c ≤ 128) × (l.all ≡ every l.c (stays l.remembered (placed l.marks l.xs l.ys) (placed l.wmarks l.wxs l.wys)))
-
-abbrev pub decreases-loop-c : goal.decreases-loop-c
-decreases-loop-c l = 128 - l.c
+    l.all ≡ every l.c (stays l.remembered (placed l.marks l.xs l.ys) (placed l.wmarks l.wxs l.wys))

@@ -15,12 +15,11 @@ loop-c-preserved c =
     let p = keeps a.held.now a.wanted.now in
     let t : c.if_marked.result ≡ p l.c =
     rw (c.if_marked.ensures, lt-ltb l.c 128 c.loop-c-test.true) in
-    (omega arith, one_more p l.c _ _ _ t l.invariant.1 c.both-all.ensures)
+    one_more p l.c _ _ _ t l.invariant c.both-all.ensures
 
 pub returns : goal.returns
 unfolding loses_input
-returns c marks xs ys inputs wmarks wxs wys winputs = ap not (all_tested _ c.loop-c.invariant.1 (omega arith))
+returns c marks xs ys inputs wmarks wxs wys winputs = ap not (all_tested _ c.loop-c.invariant (omega arith))
 
 pub loop-c-init : goal.loop-c-init
-loop-c-init c =
-    (omega arith, none_yet _)
+loop-c-init c = none_yet _

@@ -15,12 +15,11 @@ loop-c-preserved c =
     let p = keeps a.teams.now a.wanted.now in
     let t : c.if_marked.result ≡ p l.c =
     rw (c.if_marked.ensures, n.has_team.ensures, c.has_team-in-loop-c.ensures) in
-    (omega arith, one_more p l.c _ _ _ t l.invariant.1 c.both-all.ensures)
+    one_more p l.c _ _ _ t l.invariant c.both-all.ensures
 
 pub returns : goal.returns
 unfolding loses_team
-returns c = ap not (all_tested _ c.loop-c.invariant.1 (omega arith))
+returns c = ap not (all_tested _ c.loop-c.invariant (omega arith))
 
 pub loop-c-init : goal.loop-c-init
-loop-c-init c =
-    (omega arith, none_yet _)
+loop-c-init c = none_yet _

@@ -1,5 +1,5 @@
 -- `reachable::loses_team` meets its contract. Assumes nothing.
-use Prim.Native.Nat.{ℕ, ◌≤◌, ◌-◌}
+use Prim.Native.Nat.{ℕ}
 use mathlib.Core.Path.{◌≡◌}
 use mathlib.Core.Bool.{Bool, true, cond}
 use mathlib.Core.List.{List}
@@ -13,7 +13,4 @@ abbrev pub keeps : List ℤ → List ℤ → ℕ → Bool
 keeps t wanted c = cond (has_team t c) (has_team wanted c) true
 
 abbrev pub invariant-loop-c : goal.invariant-loop-c
-invariant-loop-c l = (l.c ≤ 128) × (l.all ≡ every l.c (keeps l.teams l.wanted))
-
-abbrev pub decreases-loop-c : goal.decreases-loop-c
-decreases-loop-c l = 128 - l.c
+invariant-loop-c l = l.all ≡ every l.c (keeps l.teams l.wanted)

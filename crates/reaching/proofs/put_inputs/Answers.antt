@@ -25,7 +25,7 @@ pub put-next-requires : goal.put-next-requires
 put-next-requires c =
     let st = c in
     let l = c.loop-c in
-    turn_ready (steps st) 128 60 (small st) st.args.out.now st.args.at st.requires l.c (omega arith) l.next l.out l.invariant.1 st.args.version _
+    turn_ready (steps st) 128 60 (small st) st.args.out.now st.args.at st.requires l.c (omega arith) l.next l.out l.invariant st.args.version _
     (c.input_choice-choice.ensures [] [] [] [] [] [] st.args.version)
 
 -- the records of each client, and that they are short
@@ -42,12 +42,9 @@ small_2 st i h =
 pub loop-c-preserved : goal.loop-c-preserved
 loop-c-preserved c =
     let st = c in
-    let l = c.loop-c in (
-      omega arith,
-      turn_put (steps_2 st) 128 60 (small_2 st) st.args.out.now st.args.at st.requires l.c (omega arith) l.next l.out l.invariant.1 st.args.version _
-          (c.input_choice-choice.ensures [] [] [] [] [] [] st.args.version) _ _ c.put-next.ensures,
-    )
+    let l = c.loop-c in
+    turn_put (steps_2 st) 128 60 (small_2 st) st.args.out.now st.args.at st.requires l.c (omega arith) l.next l.out l.invariant st.args.version _
+    (c.input_choice-choice.ensures [] [] [] [] [] [] st.args.version) _ _ c.put-next.ensures
 
 pub loop-c-init : goal.loop-c-init
-loop-c-init c =
-    (omega arith, nothing_yet _ _ _ (omega arith))
+loop-c-init c = nothing_yet _ _ _ (omega arith)

@@ -1,5 +1,4 @@
 -- `reaching::put_players` meets its contract. The loop's invariant: the records of the clients below `c` were put. Assumes nothing.
-use Prim.Native.Nat.{◌≤◌, ◌-◌}
 use mathlib.Core.List.{[]}
 use Rattle.record_writer.specs.steps.Puts.{PutsBytes}
 use Rattle.state.specs.State.{entries_with}
@@ -8,8 +7,4 @@ use Rattle.reaching.proofs.put_players.Given as goal
 
 abbrev pub invariant-loop-c : goal.invariant-loop-c
 invariant-loop-c l =
-    (l.c ≤ 128)
-    × PutsBytes l.initial.out l.at (bytes_of (joined l.c (player_for (entries_with l.marks l.xs l.ys [] []) (entries_with l.wmarks l.wxs l.wys [] [])))) l.next l.out
-
-abbrev pub decreases-loop-c : goal.decreases-loop-c
-decreases-loop-c l = 128 - l.c
+    PutsBytes l.initial.out l.at (bytes_of (joined l.c (player_for (entries_with l.marks l.xs l.ys [] []) (entries_with l.wmarks l.wxs l.wys [] [])))) l.next l.out

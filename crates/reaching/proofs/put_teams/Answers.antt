@@ -23,7 +23,7 @@ put-next-requires c =
     let st = c in
     let v = st.args.version in
     let l = c.loop-c in
-    turn_ready (steps st) 128 25 (small st) st.args.out.now st.args.at st.requires.0 l.c (omega arith) l.next l.out l.invariant.1 v _
+    turn_ready (steps st) 128 25 (small st) st.args.out.now st.args.at st.requires.0 l.c (omega arith) l.next l.out l.invariant v _
     (c.team_choice-choice.ensures v (st.requires.1 l.c (omega arith)))
 
 -- the records of each client, and that they are short
@@ -37,12 +37,9 @@ pub loop-c-preserved : goal.loop-c-preserved
 loop-c-preserved c =
     let st = c in
     let v = st.args.version in
-    let l = c.loop-c in (
-      omega arith,
-      turn_put (steps_2 st) 128 25 (small_2 st) st.args.out.now st.args.at st.requires.0 l.c (omega arith) l.next l.out l.invariant.1 v _
-          (c.team_choice-choice.ensures v (st.requires.1 l.c (omega arith))) _ _ c.put-next.ensures,
-    )
+    let l = c.loop-c in
+    turn_put (steps_2 st) 128 25 (small_2 st) st.args.out.now st.args.at st.requires.0 l.c (omega arith) l.next l.out l.invariant v _
+    (c.team_choice-choice.ensures v (st.requires.1 l.c (omega arith))) _ _ c.put-next.ensures
 
 pub loop-c-init : goal.loop-c-init
-loop-c-init c =
-    (omega arith, nothing_yet _ _ _ (omega arith))
+loop-c-init c = nothing_yet _ _ _ (omega arith)

@@ -40,7 +40,3 @@ room c = omega (arith, id_length c.args.which, c.requires)
 pub bounds-out-at : goal.bounds-out-at
 bounds-out-at c =
     omega (arith, room c)
-
--- ?? inline: omega (arith, room c.before.before.before)
-
--- ?? inline: c.before.loop.invariant.0

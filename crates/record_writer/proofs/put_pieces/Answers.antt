@@ -63,6 +63,6 @@ returns c =
     let l = c.loop-i in
     let m : length a.args.parts ≡ 16 = c.well_formed.1.1.1.0.1.1.1.0.1.0.1 in
     let e = pieces_end a.o a.ten a.args c.well_formed.1.1.0.1.0.1 m in
-    let p = c.past_pieces-end.ensures in
+    let p = c.past_pieces-i-end.ensures in
     rest_done a.out.now a.at (pieces_bytes a.s.now (pieces_of a.o a.ten a.args)) c.requires.1 l.out l.next
     (rw (drop_of_length-le (pieces_of a.o a.ten a.args) {i = l.i} (omega arith)) at l.invariant.1)

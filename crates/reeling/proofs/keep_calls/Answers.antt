@@ -9,7 +9,7 @@ overflow_add-used c =
     let o = c in
     let t = o in
     let u = rw c.in-Event.is at (fits t.loop-count.invariant t.loop-count-test.true o.good_call-o.result _ o.good_call-o.ensures) in
-    record { fits = omega (arith, u, t.well_formed.1.1.1.1.1.1.1.1.1.0.0) }
+    record { fits = omega (arith, u, t.well_formed.1.1.1.0.0) }
 
 pub loop-count-preserved : goal.loop-count-preserved
 loop-count-preserved c =
@@ -32,7 +32,7 @@ overflow_add-used-in-Finish c =
     let o = c in
     let t = o in
     let u = rw c.in-Finish.is at (fits t.loop-count.invariant t.loop-count-test.true o.good_call-o.result _ o.good_call-o.ensures) in
-    record { fits = omega (arith, u, t.well_formed.1.1.1.1.1.1.1.1.1.0.0) }
+    record { fits = omega (arith, u, t.well_formed.1.1.1.0.0) }
 
 pub returns-in-Finish : goal.returns-in-Finish
 returns-in-Finish c =

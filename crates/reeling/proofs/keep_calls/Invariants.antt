@@ -1,7 +1,6 @@
 -- `reeling::keep_calls` meets its contract. Assumes nothing.
 use Prim.Native.Nat.{◌-◌}
-use Rattle.state.specs.State.{entries_with, reader_with}
-use Rattle.state.specs.steps.Inside.{memory}
+use Rattle.state.specs.State.{reader_with}
 use Rattle.calls.specs.Along.{calls}
 use Rattle.reel.specs.Reel.{reel_of}
 use Rattle.reeling.proofs.Turns.{Going}
@@ -9,8 +8,7 @@ use Rattle.reeling.proofs.keep_calls.Given as goal
 
 abbrev pub invariant-loop-count : goal.invariant-loop-count
 invariant-loop-count l =
-    Going (calls l.most (reader_with l.initial.s (entries_with l.initial.marks l.initial.xs l.initial.ys l.initial.held l.initial.inputs)) l.w l.last) l.most l.w l.last l.initial.teams (reel_of l.initial.counts l.initial.rows l.initial.tens l.initial.formers) l.s
-    (memory l.marks l.xs l.ys l.held l.inputs l.input l.former) l.teams (reel_of l.counts l.rows l.tens l.formers) l.count l.used
+    Going (calls l.most (reader_with l.initial.s l.initial.m.entries) l.w l.last) l.most l.w l.last l.initial.teams (reel_of l.initial.counts l.initial.rows l.initial.tens l.initial.formers) l.s l.m l.teams (reel_of l.counts l.rows l.tens l.formers) l.count l.used
 
 abbrev pub decreases-loop-count : goal.decreases-loop-count
 decreases-loop-count l =

@@ -20,7 +20,7 @@ put_ending-requires c =
     let r = i in
     let a = r.args in
     last_fits a.reader a.bytes.now a.ended a.rows.now a.tens.now a.out.now r.event_room-n.result r.event_room-n.ensures i.if-n-eq0.false
-    m.read_many-many.result _ _ l.least-end.result l.least-end.ensures
+    m.read_many-many.result _ _ l.min-end.result l.min-end.ensures
     f.is_last.result f.is_last.ensures m.read_many-many.ensures _ _ p.put_rows-at.ensures
 
 pub returns : goal.returns
@@ -34,6 +34,6 @@ returns c =
     let r = i in
     let a = r.args in
     turned a.reader a.bytes.now a.ended a.rows.now a.tens.now a.out.now r.event_room-n.result r.event_room-n.ensures i.if-n-eq0.false
-    m.read_many-many.result _ _ l.least-end.result l.least-end.ensures
+    m.read_many-many.result _ _ l.min-end.result l.min-end.ensures
     f.is_last.result f.is_last.ensures m.read_many-many.ensures _ _ p.put_rows-at.ensures _ _
     e.put_ending.ensures _ c.has_ending.ensures _ c.wants_more.ensures

@@ -1,13 +1,9 @@
 -- `rests::with_pair` meets its contract. Assumes nothing.
 use mathlib.Core.Path.{◌≡◌, ◌∙◌}
 use mathlib.Core.Bool.{Bool, true, false}
-use mathlib.Core.List.{List}
-use Prim.Native.Nat.{ℕ}
-use lib.IntN.{ℤ}
 use borrow.Author.Rules.{rules}
 use Rattle.item.specs.Records.{read_rest}
 use Rattle.state.specs.Slim.{slim_step}
-use Rattle.state.specs.steps.Inside.{memory}
 use Rattle.state.specs.steps.Parts.{with_rest}
 use Rattle.state.proofs.Numbers.{Three}
 use Rattle.rests.specs.steps.Kinds.{pair_kind}
@@ -16,22 +12,22 @@ use Rattle.rests.proofs.with_pair.Goals as goal
 use Rattle.rests.proofs.with_pair.Goals.{After-player_diff, After-player_new}
 
 pub returns-in_default : goal.returns-in_default
-returns-in_default c held inputs input former =
+returns-in_default c =
     let r = c in
     let a = r.args in
-    let m = memory a.marks.now a.xs.now a.ys.now held inputs input former in
+    let m = a.m.now in
     c.run_out.ensures m ∙ pair_out a.s m a.last a.w.now a.at a.new a.cid _ r.read_pair.ensures c.in_default.is
 
 -- the pair that was read, and its numbers read back from their bits
-got : (c : After-player_new) (held : List ℕ) (inputs input former : List ℤ) (new : Bool)
+got : (c : After-player_new) (new : Bool)
     → (let a = c.args in
-    let m = memory a.marks.now a.xs.now a.ys.now held inputs input former in
+    let m = a.m.now in
     pair_step a.s m a.last a.w.now a.at new a.cid c.in-Got.first c.in-Got.second c.in-Got.next
     ≡ slim_step (with_rest a.s m a.last (read_rest (pair_kind new a.cid) a.w.now a.at)))
-got c held inputs input former new =
+got c new =
     let r = c in
     let a = r.args in
-    let m = memory a.marks.now a.xs.now a.ys.now held inputs input former in
+    let m = a.m.now in
     pair_got a.s m a.last a.w.now a.at new a.cid _ r.read_pair.ensures c.in-Got.first c.in-Got.second c.in-Got.next c.in-Got.is
 
 kept : (c : After-player_new)
@@ -39,22 +35,22 @@ kept : (c : After-player_new)
 kept c = search rules
 
 pub returns-then-new : goal.returns-then-new
-returns-then-new c held inputs input former =
+returns-then-new c =
     let n = c in
     let k = kept n in
     rw c.if-new.true
-    (rw (n.named-t.ensures, k.first, k.second, k.third) at (c.player_new.ensures held inputs input former) ∙ got n held inputs input former true)
+    (rw (n.named-t.ensures, k.first, k.second, k.third) at c.player_new.ensures ∙ got n true)
 
 -- the pair that was read, and its numbers read back from their bits
-got_2 : (c : After-player_diff) (held : List ℕ) (inputs input former : List ℤ) (new : Bool)
+got_2 : (c : After-player_diff) (new : Bool)
     → (let a = c.args in
-    let m = memory a.marks.now a.xs.now a.ys.now held inputs input former in
+    let m = a.m.now in
     pair_step a.s m a.last a.w.now a.at new a.cid c.in-Got.first c.in-Got.second c.in-Got.next
     ≡ slim_step (with_rest a.s m a.last (read_rest (pair_kind new a.cid) a.w.now a.at)))
-got_2 c held inputs input former new =
+got_2 c new =
     let r = c in
     let a = r.args in
-    let m = memory a.marks.now a.xs.now a.ys.now held inputs input former in
+    let m = a.m.now in
     pair_got a.s m a.last a.w.now a.at new a.cid _ r.read_pair.ensures c.in-Got.first c.in-Got.second c.in-Got.next c.in-Got.is
 
 kept_2 : (c : After-player_diff)
@@ -62,8 +58,8 @@ kept_2 : (c : After-player_diff)
 kept_2 c = search rules
 
 pub returns : goal.returns
-returns c held inputs input former =
+returns c =
     let n = c in
     let k = kept_2 n in
     rw c.if-new.false
-    (rw (n.named-t.ensures, k.first, k.second, k.third) at (c.player_diff.ensures held inputs input former) ∙ got_2 n held inputs input former false)
+    (rw (n.named-t.ensures, k.first, k.second, k.third) at c.player_diff.ensures ∙ got_2 n false)

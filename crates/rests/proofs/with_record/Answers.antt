@@ -2,7 +2,6 @@
 use mathlib.Core.Path.{◌≡◌, ◌∙◌}
 use mir.Syntax.{w32}
 use mir.Val.{to_z, of_z}
-use Rattle.state.specs.steps.Inside.{memory}
 use Rattle.rests.proofs.Rests.{old_rest, finish_rest}
 use borrow.Author.Rules.{rules}
 use Rattle.rests.proofs.with_record.Goals as goal
@@ -10,12 +9,12 @@ use Rattle.rests.proofs.with_record.Goals as goal
 pub returns-in-Finish : goal.returns-in-Finish
 returns-in-Finish c =
     let a = c.args in
-    let m = memory a.marks.now a.xs.now a.ys.now a.held.now a.inputs.now a.input.now a.former.now in
+    let m = a.m.now in
     rw c.in-Finish.is (c.finished.ensures m ∙ finish_rest a.s m a.last a.w.now a.at)
 
 pub returns-in-PlayerOld : goal.returns-in-PlayerOld
 returns-in-PlayerOld c =
     let a = c.args in
     let k : to_z w32 (of_z w32 c.in-PlayerOld.cid) ≡ c.in-PlayerOld.cid = search rules in
-    let m = memory a.marks.now a.xs.now a.ys.now a.held.now a.inputs.now a.input.now a.former.now in
-    rw c.in-PlayerOld.is ((rw (c.named.ensures, k) at (c.player_old.ensures a.held.now a.inputs.now a.input.now a.former.now)) ∙ old_rest a.s m a.last a.w.now a.at c.in-PlayerOld.cid)
+    let m = a.m.now in
+    rw c.in-PlayerOld.is ((rw (c.named.ensures, k) at c.player_old.ensures) ∙ old_rest a.s m a.last a.w.now a.at c.in-PlayerOld.cid)

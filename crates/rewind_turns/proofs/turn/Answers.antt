@@ -10,5 +10,5 @@ returns c =
     let l = f in
     let a = l.args in
     turned a.most a.reader (reel_of a.counts a.rows.now a.inputs.now a.formers.now) a.bytes.now a.ended
-    l.least-end.result l.least-end.ensures f.is_last.result f.is_last.ensures r.read_kept-read.result _ r.read_kept-read.ensures
+    l.min-end.result l.min-end.ensures f.is_last.result f.is_last.ensures r.read_kept-read.result _ r.read_kept-read.ensures
     c.is_over.result c.is_over.ensures c.wants_more.result c.wants_more.ensures

@@ -12,7 +12,7 @@ pub loop-n-init : goal.loop-n-init
 loop-n-init c =
     let a = c.args in
     let t : Same a.tick = search rules in
-    (omega arith, (c.requires.0, λ inputs formers. rw t (none_yet a.tick (reel_of a.counts a.rows.now inputs formers))))
+    (c.requires.0, λ inputs formers. rw t (none_yet a.tick (reel_of a.counts a.rows.now inputs formers)))
 
 pub returns-then-is_start : goal.returns-then-is_start
 returns-then-is_start c =
@@ -21,7 +21,7 @@ returns-then-is_start c =
     let l = c.loop-n in
     let is = sym (rw (c.place_before-place.ensures, t) at c.is_start.ensures) ∙ c.if-is_start.true in
     λ inputs formers.
-    here a.tick (reel_of a.counts a.rows.now inputs formers) l.n a.counts.count l.place (omega arith) is ∙ sym (rw t at (l.invariant.1.1 inputs formers))
+    here a.tick (reel_of a.counts a.rows.now inputs formers) l.n a.counts.count l.place (omega arith) is ∙ sym (rw t at (l.invariant.1 inputs formers))
 
 pub loop-n-preserved : goal.loop-n-preserved
 loop-n-preserved c =
@@ -30,14 +30,11 @@ loop-n-preserved c =
     let l = c.loop-n in
     let p = c.place_before-place in
     let e = sym (rw (p.ensures, t) at c.is_start.ensures) ∙ c.if-is_start.false in (
-      omega arith,
-      (
-        rw p.ensures (before_below l.place l.invariant.1.0),
-        λ inputs formers.
-            rw (t, p.ensures)
-            ((rw t at (l.invariant.1.1 inputs formers))
-            ∙ not_here a.tick (reel_of a.counts a.rows.now inputs formers) l.n a.counts.count l.place (omega arith) e),
-      ),
+      rw p.ensures (before_below l.place l.invariant.0),
+      λ inputs formers.
+          rw (t, p.ensures)
+          ((rw t at (l.invariant.1 inputs formers))
+          ∙ not_here a.tick (reel_of a.counts a.rows.now inputs formers) l.n a.counts.count l.place (omega arith) e),
     )
 
 pub returns : goal.returns
@@ -46,4 +43,4 @@ returns c =
     let t : Same a.tick = search rules in
     let l = c.loop-n in
     λ inputs formers.
-    all_passed a.tick (reel_of a.counts a.rows.now inputs formers) l.n a.counts.count l.place (omega arith) ∙ sym (rw t at (l.invariant.1.1 inputs formers))
+    all_passed a.tick (reel_of a.counts a.rows.now inputs formers) l.n a.counts.count l.place (omega arith) ∙ sym (rw t at (l.invariant.1 inputs formers))

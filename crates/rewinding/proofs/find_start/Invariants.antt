@@ -1,5 +1,5 @@
 -- `rewinding::find_start` meets its contract. Assumes nothing.
-use Prim.Native.Nat.{◌-◌, ◌≤◌, ◌<◌}
+use Prim.Native.Nat.{◌-◌, ◌<◌}
 use mathlib.Core.Path.{◌≡◌}
 use mathlib.Core.List.{List}
 use lib.IntN.{ℤ}
@@ -11,11 +11,7 @@ use Rattle.rewinding.proofs.find_start.Given as goal
 -- n rows are passed, and what is found is among those before a place
 abbrev pub invariant-loop-n : goal.invariant-loop-n
 invariant-loop-n l =
-    (l.n ≤ l.counts.count)
-    × ((l.place < 512)
+    (l.place < 512)
     × ((inputs formers : List ℤ)
-    → newer_than l.tick (rows_of (reel_of l.counts l.rows inputs formers))
-    ≡ shift l.n (newer_than l.tick (rows_before (reel_of l.counts l.rows inputs formers) (l.counts.count - l.n) l.place))))
-
-abbrev pub decreases-loop-n : goal.decreases-loop-n
-decreases-loop-n l = l.counts.count - l.n
+    → newer_than l.tick (rows_of (reel_of l.fn.counts l.rows inputs formers))
+    ≡ shift l.n (newer_than l.tick (rows_before (reel_of l.fn.counts l.rows inputs formers) (l.fn.counts.count - l.n) l.place)))

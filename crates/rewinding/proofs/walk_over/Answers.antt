@@ -13,10 +13,10 @@ returns-then-not-off c =
     let p = c.place_before-q in
     λ counts.
     unfitted (reel_of counts a.rows.now a.tens.now a.formers.now) a.n l.k l.p c.loop-k-test.true _ _
-    (took (reel_of counts a.rows.now a.tens.now a.formers.now) l.p p.result l.invariant.1.0 p.ensures _ _ _ _ _ _
+    (took (reel_of counts a.rows.now a.tens.now a.formers.now) l.p p.result l.invariant.0 p.ensures _ _ _ _ _ _
     c.ten_at.ensures c.undo_in-undo.ensures c.ten_at-ten.ensures c.ten_at-old.ensures c.take_off_team-off.ensures)
     (not-true _ c.if-not-off.true)
-    ∙ l.invariant.1.1 counts
+    ∙ l.invariant.1 counts
 
 pub loop-k-preserved : goal.loop-k-preserved
 loop-k-preserved c =
@@ -24,17 +24,14 @@ loop-k-preserved c =
     let l = c.loop-k in
     let p = c.place_before-q in
     let e = p.ensures in (
-      omega arith,
-      (
-        rw e (before_below l.p l.invariant.1.0),
-        λ counts.
-            rw e
-            (fitted (reel_of counts a.rows.now a.tens.now a.formers.now) a.n l.k l.p c.loop-k-test.true _ _
-            (took (reel_of counts a.rows.now a.tens.now a.formers.now) l.p p.result l.invariant.1.0 p.ensures _ _ _ _ _ _
-            c.ten_at.ensures c.undo_in-undo.ensures c.ten_at-ten.ensures c.ten_at-old.ensures c.take_off_team-off.ensures)
-            (not-false _ c.if-not-off.false)
-            ∙ l.invariant.1.1 counts),
-      ),
+      rw e (before_below l.p l.invariant.0),
+      λ counts.
+          rw e
+          (fitted (reel_of counts a.rows.now a.tens.now a.formers.now) a.n l.k l.p c.loop-k-test.true _ _
+          (took (reel_of counts a.rows.now a.tens.now a.formers.now) l.p p.result l.invariant.0 p.ensures _ _ _ _ _ _
+          c.ten_at.ensures c.undo_in-undo.ensures c.ten_at-ten.ensures c.ten_at-old.ensures c.take_off_team-off.ensures)
+          (not-false _ c.if-not-off.false)
+          ∙ l.invariant.1 counts),
     )
 
 pub returns : goal.returns
@@ -42,4 +39,4 @@ returns c =
     let a = c.args in
     let l = c.loop-k in
     λ counts.
-    none_left (reel_of counts a.rows.now a.tens.now a.formers.now) a.n l.k l.p (omega arith) _ ∙ l.invariant.1.1 counts
+    none_left (reel_of counts a.rows.now a.tens.now a.formers.now) a.n l.k l.p (omega arith) _ ∙ l.invariant.1 counts

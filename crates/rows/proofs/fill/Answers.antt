@@ -2,6 +2,7 @@
 use Prim.Native.Nat.{ℕ, ◌*◌}
 use mathlib.Core.Path.{◌≡◌, refl, sym, ap, ◌∙◌}
 use mathlib.Core.List.{List, []}
+use native.Mathlib.Omega.{arith}
 use lib.IntN.{ℤ}
 use mir.Syntax.{w32}
 use mir.Val.{to_z, of_z}
@@ -9,7 +10,7 @@ use borrow.Author.Rules.{rules}
 use Rattle.state.specs.Reading.{Event}
 use Rattle.state.proofs.Numbers.{back, Three}
 use Rattle.teams.specs.Teams.{teams_after, former_team}
-use Rattle.rows.specs.Rows.{event_row, event_tens, put}
+use Rattle.rows.specs.Rows.{flag, event_row, event_tens, put}
 use Rattle.rows.specs.steps.Stores.{Filled}
 use Rattle.rows.proofs.Puts.{put_none}
 use Rattle.rows.proofs.fill.Goals as goal
@@ -38,9 +39,10 @@ unfolding teams_after former_team
 returns-in-Input c =
     let m = c in
     let st = m in
-    let f = m.flag_of in
+    let f = m.from in
     let b : Same m.in-Input.cid × Same f.result = (search rules, search rules) in
-    rw m.in-Input.is (record { teams = refl; rows = rw (back st.args.n st.ranges.n, b.0, b.1, f.ensures) at m.put_row-in-Input.ensures; tens = c.put_tens.ensures })
+    let e : f.result ≡ flag m.in-Input.had = grind arith in
+    rw m.in-Input.is (record { teams = refl; rows = rw (back st.args.n st.ranges.n, b.0, b.1, e) at m.put_row-in-Input.ensures; tens = c.put_tens.ensures })
 
 pub returns-in-Record : goal.returns-in-Record
 returns-in-Record c =

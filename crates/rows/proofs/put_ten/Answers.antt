@@ -20,10 +20,10 @@ loop-k-preserved c =
     let h : length a.ten ≡ 10 = search rules in
     let x = element (get_or a.ten l.k (pos 0)) c.x-1.given in
     let e : set l.tens (a.at + l.k) (to_z w32 (of_z w32 (get_or a.ten l.k (pos 0)))) ≡ paste a.tens.now a.at a.ten (l.k + 1) =
-    (λ i. set (l.invariant.1.1 i) (a.at + l.k) (x i))
+    (λ i. set (l.invariant.1 i) (a.at + l.k) (x i))
     ∙ paste-suc a.tens.now a.at a.ten l.k (pos 0) (omega arith) (omega arith)
     ∙ ap (paste a.tens.now a.at a.ten) (sym (add-one l.k)) in
-    (omega arith, (length-set l.tens (a.at + l.k) _ ∙ l.invariant.1.0, e))
+    (length-set l.tens (a.at + l.k) _ ∙ l.invariant.0, e)
 
 pub returns : goal.returns
 returns c =
@@ -31,4 +31,4 @@ returns c =
     let l = c.loop-k in
     let h : length a.ten ≡ 10 = search rules in
     let e : l.k ≡ 10 = omega arith in
-    l.invariant.1.1 ∙ rw e (put_pasted a.tens.now a.at 10 a.ten h)
+    l.invariant.1 ∙ rw e (put_pasted a.tens.now a.at 10 a.ten h)

@@ -1,17 +1,16 @@
 -- `shapes::read_rest` meets its contract: each shape by its fields in their order. Assumes nothing.
-use mathlib.Core.Path.{◌≡◌, refl, sym, ◌∙◌, ap}
-use mathlib.Core.Bool.{false≢true}
+use mathlib.Core.Path.{◌≡◌, refl}
 use mathlib.Core.List.{[], ◌∷◌}
 use borrow.Author.Rules.{rules}
 use mir.Syntax.{w32}
 use mir.Val.{to_z, of_z}
 use Rattle.varint.specs.Integers.{read_int}
-use Rattle.packer.specs.Parts.{read_string, read_data}
+use Rattle.packer.specs.Parts.{read_string}
 use Rattle.fields.specs.Fields.{str, num, bytes, read_fields}
 use Rattle.fields.specs.steps.Sorts.{push}
-use Rattle.shapes.specs.steps.Shapes.{id_part, is_nothing}
-use Rattle.shapes.specs.declared.Shape.TheVariants.{IntInt, IntStr, IntIntStr, IntUuidStr, IntUuidIntStr, IntData}
-use Rattle.shapes.proofs.Kept.{id_kept, by_int, by_part, data_shows}
+use Rattle.shapes.specs.steps.Shapes.{id_part}
+use Rattle.shapes.specs.declared.Shape.TheVariants.{IntUuidStr, IntUuidIntStr}
+use Rattle.shapes.proofs.Kept.{id_kept, by_int, by_part}
 use Rattle.shapes.proofs.read_rest.Goals as goal
 
 pub returns-in-Got : goal.returns-in-Got

@@ -10,7 +10,8 @@ use Rattle.item.specs.Contents.{cid_of}
 use Rattle.kinds.specs.declared.Version.{Version}
 use Rattle.kinds.specs.declared.Kind.{Kind}
 use Rattle.state.specs.Sorts.{sort_of}
-use Rattle.state.specs.State.{Memory, zero_in, good_entry, ten_zeros, good_sort}
+use Rattle.state.specs.State.{zero_in, good_entry, ten_zeros, good_sort}
+use Rattle.state.specs.declared.Memory.{Memory}
 use Rattle.state.specs.Reading.{
   tick_start,
   tick_end,

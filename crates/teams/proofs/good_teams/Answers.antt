@@ -14,12 +14,11 @@ loop-i-preserved c =
     let m = element (mark_of t l.i) c.mark-1.given in
     let n = element (number_of t l.i) c.number-1.given in
     let e : c.good_team-good.result ≡ good_at t l.i = rw (c.good_team-good.ensures, m, n) in
-    (omega arith, one_more (good_at t) l.i _ _ _ e l.invariant.1 refl)
+    one_more (good_at t) l.i _ _ _ e l.invariant refl
 
 pub returns : goal.returns
 unfolding good_teams
-returns c = all_tested _ c.loop-i.invariant.1 (omega arith)
+returns c = all_tested _ c.loop-i.invariant (omega arith)
 
 pub loop-i-init : goal.loop-i-init
-loop-i-init c =
-    (omega arith, none_yet _)
+loop-i-init c = none_yet _

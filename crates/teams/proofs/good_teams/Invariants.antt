@@ -1,5 +1,5 @@
 -- `teams::good_teams` meets its contract. Assumes nothing.
-use Prim.Native.Nat.{ℕ, ◌≤◌, ◌-◌}
+use Prim.Native.Nat.{ℕ}
 use mathlib.Core.Path.{◌≡◌}
 use mathlib.Core.Bool.{Bool}
 use mathlib.Core.List.{List}
@@ -12,7 +12,4 @@ abbrev pub good_at : List ℤ → ℕ → Bool
 good_at t c = good_team (mark_of t c) (number_of t c)
 
 abbrev pub invariant-loop-i : goal.invariant-loop-i
-invariant-loop-i l = (l.i ≤ 128) × (l.good ≡ every l.i (good_at l.teams))
-
-abbrev pub decreases-loop-i : goal.decreases-loop-i
-decreases-loop-i l = 128 - l.i
+invariant-loop-i l = l.good ≡ every l.i (good_at l.teams)

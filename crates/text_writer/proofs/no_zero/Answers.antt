@@ -1,22 +1,13 @@
--- `text_writer::no_zero` meets its contract. The loop's invariant: what is left from `i` on decides the answer. Assumes nothing.
-use Prim.Native.Nat.{◌-◌, ◌≤◌}
-use mathlib.Core.Path.{◌≡◌, refl, sym, ◌∙◌}
-use native.Mathlib.Omega.{arith}
-use lib.ListN.{length, drop, drop_of_length-le}
+use Rattle.std.proofs.Common.{◌≡◌, ℕ, not, List, [], ◌∷◌, eqb, refl, ap, ◌∙◌, sym}
+use Rattle.std.specs.List.{list_any}
+use Rattle.num.proofs.Cases.{by_bool}
 use Rattle.packer.specs.Texts.{no_zero}
-use Rattle.packer.proofs.Texts.{zero_ends, zero_more}
 use Rattle.text_writer.proofs.no_zero.Goals as goal
 
-pub returns-then-b-i-eq0 : goal.returns-then-b-i-eq0
-returns-then-b-i-eq0 c =
-    let l = c.loop-i in
-    sym (l.invariant.1 ∙ zero_ends c.args.b.now l.i (omega arith) c.if-b-i-eq0.true)
-
-pub loop-i-preserved : goal.loop-i-preserved
-loop-i-preserved c =
-    let l = c.loop-i in
-    (omega arith, l.invariant.1 ∙ zero_more c.args.b.now l.i (omega arith) c.if-b-i-eq0.false)
+contains_is : (b : List ℕ) → no_zero b ≡ not (list_any (λ y. eqb y 0) b)
+unfolding no_zero
+contains_is [] = refl
+contains_is (x ∷ b) = by_bool (eqb x 0) (λ t. rw t) (λ t. rw t (contains_is b))
 
 pub returns : goal.returns
-unfolding no_zero
-returns c = sym (c.loop-i.invariant.1 ∙ simp (drop_of_length-le c.args.b.now c.loop-i-test.false))
+returns c = ap not c.contains.ensures.value ∙ sym (contains_is c.args.b.now)

