@@ -67,7 +67,7 @@ written_there xs at bs n l h =
 pub said_got : (a : CallAnswer) (r : Record) (d : Content Part) (n : ℕ) → said_by a r ≡ gives d n → (a ≡ calls.Got n) × (record_of r ≡ d)
 said_got (calls.Got m) r d n e = (cc, cc)
 said_got calls.More r d n e = (cc, cc)
-said_got (calls.Err q) r d n e = (cc, cc)
+said_got (calls.Refused q) r d n e = (cc, cc)
 
 -- ---- what a reading means
 
