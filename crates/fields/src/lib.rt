@@ -87,25 +87,26 @@ pub fn read_args(s: &[u8], at: usize) -> ArgsRead
     read_strings(s, next, value as usize)
 }
 
-// The place past n strings: the strings themselves are not kept.
+// The place past n strings, byte by byte: the strings themselves are not kept, and most are short.
 fn skip_strings(s: &[u8], at: usize, n: usize) -> ArgsAnswer
     ensures { result ≡ (args_read (args_from n s.now [] at)).answer }
 {
-    let mut next = at;
-    for passed in 0..n {
-        let PartRead::Got {
-            part: _,
-            next: past,
-        } = packer::read_string(s, next)
-        else {
-            return ArgsAnswer::RunsOut;
-        };
-        if passed == 16 {
-            return ArgsAnswer::Refused(Refusal::NumArgsTooLarge);
-        }
-        next = past;
+    if n == 0 {
+        return ArgsAnswer::Got(at);
     }
-    ArgsAnswer::Got(next)
+    let mut passed: usize = 0;
+    for i in at..s.len() {
+        if s[i] == 0 {
+            if passed == 16 {
+                return ArgsAnswer::Refused(Refusal::NumArgsTooLarge);
+            }
+            passed += 1;
+            if passed == n {
+                return ArgsAnswer::Got(i + 1);
+            }
+        }
+    }
+    ArgsAnswer::RunsOut
 }
 
 // The arguments where only the place past them is wanted.
