@@ -1,7 +1,7 @@
 // The input records on memory that is lent.
 #![tactic(auto)]
 
-ghost use Rattle.std.specs.Prelude.{◌≡◌, ◌≤◌, ◌+◌, ◌*◌, cond, ltb};
+ghost use Rattle.std.specs.Prelude.{◌≡◌, ◌/◌, cond, ltb};
 ghost use Rattle.fields.specs.Views.{zeros};
 ghost use Rattle.state.specs.State.{ten_of, put_ten};
 ghost use Rattle.state.specs.Reading.{sums, input_diff, input_new};
@@ -10,12 +10,14 @@ ghost use Rattle.state.specs.steps.Inside.{done};
 use refusal::Refusal;
 use state::{Event, Memory, Outcome, Scalars};
 
-// The ten numbers at place p of an array of tens.
+// The ten numbers at place p of an array of tens; zeros where there is no such place.
 pub fn take_ten<const N: usize>(numbers: &[i32; N], p: usize) -> [i32; 10]
-    requires { 10 * p + 10 ≤ N }
-    ensures { result ≡ ten_of numbers.now p }
+    ensures { result ≡ cond (ltb p (N / 10)) (ten_of numbers.now p) (zeros 10) }
 {
     let mut t = [0i32; 10];
+    if N / 10 <= p {
+        return t;
+    }
     for k in 0..10 {
         let x = numbers[10 * p + k];
         t[k] = x;
@@ -23,11 +25,13 @@ pub fn take_ten<const N: usize>(numbers: &[i32; N], p: usize) -> [i32; 10]
     t
 }
 
-// Ten numbers at place p of an array of tens.
+// Ten numbers at place p of an array of tens; nothing changes where there is no such place.
 pub fn put_ten<const N: usize>(numbers: &mut [i32; N], p: usize, t: [i32; 10])
-    requires { 10 * p + 10 ≤ N }
-    ensures { numbers.new ≡ put_ten numbers.old p t }
+    ensures { numbers.new ≡ cond (ltb p (N / 10)) (put_ten numbers.old p t) numbers.old }
 {
+    if N / 10 <= p {
+        return;
+    }
     for k in 0..10 {
         let x = t[k];
         numbers[10 * p + k] = x;
@@ -91,9 +95,6 @@ pub fn input_new(s: Scalars, m: &mut Memory, cid: i32, ns: [i32; 10], used: usiz
 pub fn ten_at(inputs: &[i32; 1280], c: usize) -> [i32; 10]
     ensures { result ≡ cond (ltb c 128) (ten_of inputs.now c) (zeros 10) }
 {
-    if 128 <= c {
-        return [0; 10];
-    }
     take_ten(inputs, c)
 }
 
@@ -101,8 +102,5 @@ pub fn ten_at(inputs: &[i32; 1280], c: usize) -> [i32; 10]
 pub fn put_ten_at(inputs: &mut [i32; 1280], c: usize, t: [i32; 10])
     ensures { inputs.new ≡ cond (ltb c 128) (put_ten inputs.old c t) inputs.old }
 {
-    if 128 <= c {
-        return;
-    }
     put_ten(inputs, c, t);
 }

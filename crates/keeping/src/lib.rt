@@ -27,9 +27,6 @@ pub struct KeptCounts {
 pub fn ten_at(numbers: &[i32; 5120], p: usize) -> [i32; 10]
     ensures { result ≡ cond (ltb p 512) (ten_of numbers.now p) (zeros 10) }
 {
-    if 512 <= p {
-        return [0; 10];
-    }
     take_ten(numbers, p)
 }
 

@@ -1,5 +1,7 @@
 -- `inputs::input_diff` meets its contract. Assumes nothing.
 use mathlib.Core.Path.{◌∙◌}
+use native.Mathlib.Omega.{arith}
+use borrow.Author.Tests.{lt-ltb}
 use Rattle.state.proofs.Numbers.{back, bits_are}
 use Rattle.inputs.proofs.Cases.{diff_far, diff_away, diff_here}
 use Rattle.inputs.proofs.input_diff.Goals as goal
@@ -19,7 +21,7 @@ returns c =
     let m = a.m.now in
     let b = bits_are a.cid _ st.ranges.cid c.bits-bits.ensures in
     c.gave.ensures _
-    ∙ rw (back a.cid st.ranges.cid, c.put_ten.ensures, c.add_ten-new.ensures, c.take_ten-old.ensures)
+    ∙ rw (back a.cid st.ranges.cid, c.put_ten.ensures, c.add_ten-new.ensures, c.take_ten-old.ensures, lt-ltb c.bits-bits.result 128 (omega arith))
     (diff_here a.s m a.cid a.ds a.used _ st.ranges.cid b c.if-bits-ge128.false c.if-m-c-ne1.false)
 
 pub returns-then-bits-ge128 : goal.returns-then-bits-ge128

@@ -1,6 +1,8 @@
 -- `inputs::put_ten` meets its contract. Assumes nothing.
+use Prim.Native.Nat.{◌/◌}
 use mathlib.Core.Path.{◌≡◌}
 use native.Mathlib.Omega.{arith}
+use borrow.Author.Tests.{lt-ltb}
 use lib.ListN.{get_or}
 use lib.IntN.{pos}
 use Rattle.state.specs.State.{put_ten}
@@ -18,6 +20,7 @@ loop-k-preserved g c =
 pub returns : goal.returns
 unfolding put_ten
 returns g c =
+    let a = c.args in
     let l = c.loop-k in
     let e : l.k ≡ 10 = omega arith in
-    rw e at l.invariant
+    rw (lt-ltb a.p (g.row.N / 10) (omega arith)) (rw e at l.invariant)

@@ -1,7 +1,8 @@
 -- `inputs::take_ten` meets its contract. Assumes nothing.
-use Prim.Native.Nat.{ℕ, ◌+◌, ◌*◌}
+use Prim.Native.Nat.{ℕ, ◌+◌, ◌*◌, ◌/◌}
 use mathlib.Core.Path.{◌≡◌, refl, sym, ◌∙◌}
 use native.Mathlib.Omega.{arith}
+use borrow.Author.Tests.{lt-ltb}
 use lib.ListN.{get_or, length-set}
 use lib.IntN.{ℤ, pos}
 use Rattle.fields.specs.Views.{zeros}
@@ -27,4 +28,4 @@ returns g c =
     let a = c.args in
     let l = c.loop-k in
     let e : l.k ≡ 10 = omega arith in
-    l.invariant.1 ∙ rw e (filled (zeros 10) (ten_of a.numbers.now a.p) refl refl)
+    rw (lt-ltb a.p (g.row.N / 10) (omega arith)) (l.invariant.1 ∙ rw e (filled (zeros 10) (ten_of a.numbers.now a.p) refl refl))
