@@ -1,13 +1,12 @@
 -- The bytes at hand: places inside the buffer, bytes used, bytes moved, bytes read. Assumes nothing.
-use Prim.Native.Nat.{ℕ, zero, suc, ◌+◌, ◌-◌, ◌≤◌, min}
+use Prim.Native.Nat.{ℕ, zero, suc, ◌+◌, ◌-◌, ◌≤◌, ◌<◌, min}
 use mathlib.Core.Path.{◌≡◌, sym, ◌∙◌, ap}
 use mathlib.Core.List.{List, [], ◌∷◌, ◌++◌, append_assoc}
 use native.Mathlib.Omega.{arith}
 use borrow.Author.Tests.{leb-true, leb-false}
 use lib.Dec.{leb}
-use lib.ListN.{length, take, drop, length-take, length-append, drop_of_length-le}
-use lib.Seq.{slice, slice_empty, length-slice, take_all, take-length, take-nil, take_at, drop-drop}
-use Rattle.std.specs.List.{copy_within}
+use lib.ListN.{length, take, drop, set, get_or, length-take, length-append, drop_of_length-le}
+use lib.Seq.{slice, slice_empty, length-slice, length-take-le, take_all, take-length, take-nil, take_at, drop-drop, get_or-take, get_or-drop, get_or-append-add, paste-suc}
 use Rattle.num.proofs.Cases.{by_bool}
 use Rattle.feed.specs.Feed.{unread, kept}
 use Rattle.feed.specs.steps.Clamped.{clamped}
@@ -72,10 +71,33 @@ passes h used buf =
 
 -- ---- bytes moved to the front
 
-pub shifted : (d : List ℕ) (at end : ℕ) → end ≤ length d → copy_within d at end 0 ≡ kept (slice at end d) d
-shifted d at end k =
-    let e : 0 + (end - at) ≡ end - at = omega arith in
-    rw (e, drop_take at end d, length-slice at end d k)
+abbrev pub moved : List ℕ → List ℕ → ℕ → List ℕ
+moved d w i = take i w ++ drop i d
+
+pub one_more : (d w : List ℕ) (i : ℕ) → i < length d → i < length w → set (moved d w i) i (get_or w i 0) ≡ moved d w (suc i)
+one_more d w i a b =
+    let e : 0 + i ≡ i = omega arith in
+    let f : 0 + suc i ≡ suc i = omega arith in
+    rw (e, f) at (paste-suc d 0 w i 0 (omega arith) b)
+
+-- the byte to move stands where it was
+pub ahead : (d : List ℕ) (at end i : ℕ) → at + i < end → end ≤ length d
+    → get_or (moved d (slice at end d) i) (at + i) 0 ≡ get_or (slice at end d) i 0
+ahead d at end i h k =
+    let w = slice at end d in
+    let n = length-slice at end d k in
+    let l = length-take-le i w (omega arith) in
+    let e : at + i ≡ length (take i w) + at = omega arith in
+    let f : i + at ≡ at + i = omega arith in
+    ap (λ (j : ℕ). get_or (moved d w i) j 0) e ∙ get_or-append-add (take i w) (drop i d) at 0 ∙ get_or-drop i d at 0
+    ∙ ap (λ (j : ℕ). get_or d j 0) f
+    ∙ sym (get_or-take end d (at + i) 0 h) ∙ sym (get_or-drop at (take end d) i 0)
+
+pub all_moved : (d : List ℕ) (at end i : ℕ) → end ≤ length d → i ≡ end - at → moved d (slice at end d) i ≡ kept (slice at end d) d
+all_moved d at end i k e =
+    let n = length-slice at end d k in
+    let f : i ≡ length (slice at end d) = e ∙ sym n in
+    rw (f, take-length (slice at end d))
 
 pub kept_is_law : (h : Hand) (l : List ℕ) (c : Hand) → c ≡ clamped h (length l) → (n : ℕ) (ys : List ℕ) → n ≡ c.end - c.at
     → ys ≡ kept (slice c.at c.end l) l → (n ≡ length (unread h l)) × ((ys ≡ kept (unread h l) l) × (n ≤ length ys))

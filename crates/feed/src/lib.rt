@@ -65,7 +65,9 @@ fn shift(buf: &mut [u8], at: usize, end: usize) -> usize
     ensures value { result ≡ end - at }
     ensures buf_after { buf.new ≡ kept (slice at end buf.old) buf.old }
 {
-    buf.copy_within(at..end, 0);
+    for i in 0..end - at {
+        buf[i] = buf[at + i];
+    }
     end - at
 }
 

@@ -42,6 +42,7 @@ struct PlayerFinish {
     time: i32,
 }
 
+#[tactic(auto, unfolding(crate::specs::Results::is_player_finish, kinds::specs::Magic::same_bytes, extensions::specs::Extensions::id_at, extensions::specs::Extensions::extension_row))]
 fn is_player_finish(which: Extension) -> bool
     ensures { result ≡ is_player_finish which }
 {
