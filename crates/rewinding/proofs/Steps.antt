@@ -1,5 +1,5 @@
 -- Rows stepped over, one after the other. Assumes nothing.
-use Prim.Native.Nat.{ℕ, zero, suc, ◌+◌, ◌-◌, ◌<◌}
+use Prim.Native.Nat.{ℕ, zero, suc, ◌+◌, ◌-◌, ◌<◌, ◌≤◌}
 use mathlib.Core.Path.{◌≡◌, refl, ap, ◌∙◌}
 use mathlib.Core.Bool.{true, false, cond}
 use mathlib.Core.List.{List, []}
@@ -66,9 +66,9 @@ module _ (l : Reel) where
     pub unfitted : x.fits ≡ false → record { taken = record { fits = false; board = x.board }; over = k; place = p } ≡ walk l (n - k) p k b
     unfitted e = rw e at onward
 
-  pub none_left : (n k p : ℕ) → n ≡ k → (b : TeamBoard) → record { taken = record { fits = true; board = b }; over = n; place = p } ≡ walk l (n - k) p k b
+  pub none_left : (n k p : ℕ) → n ≤ k → (b : TeamBoard) → record { taken = record { fits = true; board = b }; over = k; place = p } ≡ walk l (n - k) p k b
   unfolding walk
-  none_left n k p h b = let e : n - k ≡ 0 = omega arith in rw (e, h)
+  none_left n k p h b = let e : n - k ≡ 0 = omega arith in rw e
 
 -- ---- what the code reads at the place before p: q is that place
 

@@ -1,5 +1,5 @@
 -- `rewinding::walk_over` meets its contract. Assumes nothing.
-use mathlib.Core.Path.{◌∙◌}
+use mathlib.Core.Path.{◌≡◌, ◌∙◌}
 use native.Mathlib.Omega.{arith}
 use borrow.Author.Tests.{not-true, not-false}
 use Rattle.reel.specs.Reel.{reel_of}
@@ -39,4 +39,5 @@ returns c =
     let a = c.args in
     let l = c.loop-k in
     λ counts.
-    none_left (reel_of counts a.rows.now a.tens.now a.formers.now) a.n l.k l.p (omega arith) _ ∙ l.invariant.1 counts
+    let e : l.k ≡ a.n = omega arith in
+    none_left (reel_of counts a.rows.now a.tens.now a.formers.now) a.n a.n l.p (omega arith) _ ∙ (rw e at l.invariant.1 counts)
